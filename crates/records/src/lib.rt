@@ -1,0 +1,2 @@
+// The plain records that plans are made of, and how each is read from bytes and written as bytes.
+pub mod kinds;
