@@ -1,2 +1,3 @@
 pub mod Spell
 pub mod Spanning
+pub mod Exits

@@ -1,10 +1,10 @@
 // Records as bytes: a kind byte, then a body of a fixed length, its numbers highest byte first.
 ghost use mathlib.Core.Bool.{cond};
-ghost use mathlib.Core.List.{List, [], _∷_, _++_};
+ghost use mathlib.Core.List.{List, [], _++_};
 ghost use mathlib.Core.Path.{_≡_};
 ghost use Prim.Native.Nat.{ℕ, _≤_};
 ghost use lib.ListN.{length};
-ghost use Rattle.records.specs.Bytes.{two, four};
+ghost use Rattle.records.specs.Bytes.{two, four, film-body, channel-body, row-body, leaf-body, inner-body, closure-body};
 ghost use Rattle.std.specs.Of.Vec.{vec-items};
 ghost use Rattle.std.specs.Options.{Cases as BySome};
 ghost use Rattle.std.specs.Results.{isOk};
@@ -65,7 +65,7 @@ pub impl Record for Film as FilmRecord {
 
     ghost size = { 5 };
 
-    ghost body = { λ x. two (x .delay) ++ (two (x .pages) ++ (x .channels ∷ [])) };
+    ghost body = { film-body };
 
     fn kind_byte() -> u8 {
         Self::KIND
@@ -99,7 +99,7 @@ pub impl Record for Channel as ChannelRecord {
 
     ghost size = { 1 };
 
-    ghost body = { λ x. x .subchannels ∷ [] };
+    ghost body = { channel-body };
 
     fn kind_byte() -> u8 {
         Self::KIND
@@ -129,7 +129,7 @@ pub impl Record for Row as RowRecord {
 
     ghost size = { 11 };
 
-    ghost body = { λ x. two (x .page) ++ (x .channel ∷ (four (x .start) ++ four (x .period))) };
+    ghost body = { row-body };
 
     fn kind_byte() -> u8 {
         Self::KIND
@@ -165,7 +165,7 @@ pub impl Record for Leaf as LeafRecord {
 
     ghost size = { 2 };
 
-    ghost body = { λ x. two (x .page) };
+    ghost body = { leaf-body };
 
     fn kind_byte() -> u8 {
         Self::KIND
@@ -196,7 +196,7 @@ pub impl Record for Inner as InnerRecord {
 
     ghost size = { 4 };
 
-    ghost body = { λ x. two (x .«first_child») ++ two (x .degree) };
+    ghost body = { inner-body };
 
     fn kind_byte() -> u8 {
         Self::KIND
@@ -230,7 +230,7 @@ pub impl Record for Closure as ClosureRecord {
 
     ghost size = { 5 };
 
-    ghost body = { λ x. x .channel ∷ four (x .slot) };
+    ghost body = { closure-body };
 
     fn kind_byte() -> u8 {
         Self::KIND

@@ -1,0 +1,4 @@
+pub mod Standing
+pub mod Lists
+pub mod Stages
+pub mod Faults

@@ -1,0 +1,5 @@
+pub mod Items
+pub mod Format
+pub mod Runs
+pub mod Steps
+pub mod Answers

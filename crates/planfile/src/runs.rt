@@ -1,0 +1,30 @@
+// Lists of records in a plan file.
+ghost use mathlib.Core.List.{_++_, map};
+ghost use mathlib.Core.Logic.{_⊎_};
+ghost use mathlib.Core.Path.{_≡_};
+ghost use Prim.Native.Nat.{_<_};
+ghost use lib.ListN.{length};
+ghost use Rattle.planfile.specs.Format.{encoded};
+ghost use Rattle.planfile.specs.Runs.{Run, RunFault};
+ghost use Rattle.records.specs.declared.fault.Fault.the-variants.{Memory as OutOfMemory, TooLong as OverLong};
+ghost use Rattle.std.specs.Of.Vec.{vec-items};
+ghost use Rattle.std.specs.Results.{Cases};
+use crate::listed::Listed;
+use records::fault::*;
+use std::alloc::Global;
+
+// All records of one sort from `start` on, at most `most` of them, and where they end.
+pub fn read_run<L: Listed + Drop>(heap: Global, bytes: &[u8], start: usize, most: usize) -> Result<(Vec<L>, usize), Fault>
+    ensures reads_all { λ r. ⌜ Cases r (λ p. Run (L·Listed .item) (now (bytes .entry)) start most (p .1) (vec-items (p .0))) (RunFault (L·Listed .item) (now (bytes .entry)) start most) ⌝ }
+{
+    let mut all = Vec::new(heap);
+    let mut at = start;
+    while let Some((one, next)) = L::read_at(bytes, at)? {
+        if all.len() >= most {
+            return Err(Fault::OutOfPlace(at));
+        }
+        all.push(one)?;
+        at = next;
+    }
+    Ok((all, at))
+}
