@@ -3,3 +3,4 @@ pub mod Format
 pub mod Runs
 pub mod Steps
 pub mod Answers
+pub mod Writing

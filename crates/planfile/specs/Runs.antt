@@ -1,5 +1,6 @@
 -- A list of records that stands in a file.
 use mathlib.Core.Path.{_≡_}
+use mathlib.Core.Logic.{_⊎_}
 use mathlib.Core.List.{List, map}
 use Prim.Native.Nat.{ℕ, _+_, _<_, _≤_}
 use lib.ListN.{length}
@@ -35,3 +36,7 @@ module _ {X : Type 0} (item : X → Item) (file : List ℕ) (a most : ℕ) where
   RunFault (UnknownKind b) = ⊥
   RunFault (AfterEnd b) = ⊥
   RunFault TooLong = ⊥
+
+-- why bytes are not made: there is no memory, or they are more than any file has
+abbrev pub Unappended : List ℕ → Fault → Type 0
+Unappended all f = (f ≡ Memory) ⊎ ((f ≡ TooLong) × (32768 < length all))

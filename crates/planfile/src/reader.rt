@@ -12,14 +12,6 @@ use records::record::*;
 use records::scan::read_record;
 use std::alloc::Global;
 
-// The most bytes that a file may have to be looked at.
-pub const MOST_BYTES: usize = 32_768;
-// The most plan records of each sort, and the most closures.
-pub const MOST_CHANNELS: usize = 8;
-pub const MOST_ROWS: usize = 1_024;
-pub const MOST_NODES: usize = 2_048;
-pub const MOST_CLOSURES: usize = 64;
-
 // The length of the body of a record of this kind, where there is such a kind.
 fn length_of_kind(kind: u8) -> Option<usize>
     ensures is_kind_length { λ r. ⌜ KindLength kind r ⌝ }
@@ -92,4 +84,12 @@ fn parse_plan(heap: Global, bytes: &[u8]) -> Result<Plan, Fault>
         return Err(Fault::AfterEnd(after_end));
     }
     Ok(Plan { film, parts, closures })
+}
+
+// The plan that a file holds, or the first fault that it has.
+pub fn read_plan(heap: Global, bytes: &[u8]) -> Result<Plan, Fault>
+    ensures answers { λ r. ⌜ Answers (now (bytes .entry)) r ⌝ }
+    ensures no_other_answer { λ r. ⌜ OnlyAnswer (now (bytes .entry)) r ⌝ }
+{
+    parse_plan(heap, bytes)
 }
