@@ -1,6 +1,9 @@
 // Why a plan file is refused.
+ghost use mathlib.Core.List.{[], _∷_};
 ghost use mathlib.Core.Path.{_≡_};
+ghost use Rattle.records.specs.Faults.{told};
 ghost use Rattle.records.specs.declared.fault.Fault.the-variants.{Memory as OutOfMemory};
+ghost use Rattle.std.specs.Options.{Cases as BySome};
 use std::alloc::AllocError;
 use std::alloc::Refused;
 
@@ -19,6 +22,22 @@ pub enum Fault {
     TooLong,
     // There was no memory for a record.
     Memory,
+}
+
+impl Fault {
+    // The number of the fault and its byte, or `None` for want of memory, which is no fault of the file.
+    pub fn number_and_byte(&self) -> Option<(u8, usize)>
+        ensures is_told { λ r. ⌜ BySome r (now (self .entry) ≡ OutOfMemory) (λ p. told (now (self .entry)) ≡ (p .0, p .1 ∷ [])) ⌝ }
+    {
+        match self {
+            Fault::CutShort(byte) => Some((41, *byte)),
+            Fault::UnknownKind(byte) => Some((42, *byte)),
+            Fault::OutOfPlace(byte) => Some((43, *byte)),
+            Fault::AfterEnd(byte) => Some((44, *byte)),
+            Fault::TooLong => Some((46, 0)),
+            Fault::Memory => None,
+        }
+    }
 }
 
 pub impl From<AllocError> for Fault as FaultFromAlloc {

@@ -1,0 +1,38 @@
+// bench [FILE]: prints what is to be said of a plan file, or of standard input where no file is named.
+use report::line::LineDisplay;
+use report::lines::report;
+use std::env;
+use std::error::AnyError;
+use std::fs;
+use std::io::Read;
+
+// The bytes to look at, or `None` where there is more than one argument.
+fn input(rt: &LibcRuntime) -> Result<Option<Vec<u8>>, AnyError> {
+    let mut args = env::args(rt)?;
+    let _name = args.next();
+    match (args.next(), args.next()) {
+        (None, _) => {
+            let mut bytes = Vec::new(rt.alloc());
+            rt.stdin().read_to_end(&mut bytes)?;
+            Ok(Some(bytes))
+        }
+        (Some(path), None) => Ok(Some(fs::read(rt, path.as_str())?)),
+        (Some(_), Some(_)) => Ok(None),
+    }
+}
+
+fn run(rt: &LibcRuntime) -> Result<(), AnyError> {
+    let Some(bytes) = input(rt)? else {
+        eprintln!(rt, "usage: bench [FILE]")?;
+        return Ok(());
+    };
+    let lines = report(rt.alloc(), bytes.as_slice())?;
+    for line in lines.iter() {
+        println!(rt, "{line}")?;
+    }
+    Ok(())
+}
+
+fn main(rt: LibcRuntime) -> Result<(), AnyError> {
+    rt.report(run(&rt))
+}
