@@ -21,12 +21,8 @@ fn input(rt: &LibcRuntime) -> Result<Option<Vec<u8>>, AnyError> {
     }
 }
 
-fn run(rt: &LibcRuntime) -> Result<(), AnyError> {
-    let Some(bytes) = input(rt)? else {
-        eprintln!(rt, "usage: bench [FILE]")?;
-        return Ok(());
-    };
-    let lines = report(rt.alloc(), bytes.as_slice())?;
+fn print_report(rt: &LibcRuntime, bytes: &[u8]) -> Result<(), AnyError> {
+    let lines = report(rt.alloc(), bytes)?;
     for line in lines.iter() {
         println!(rt, "{line}")?;
     }
@@ -34,5 +30,12 @@ fn run(rt: &LibcRuntime) -> Result<(), AnyError> {
 }
 
 fn main(rt: LibcRuntime) -> Result<(), AnyError> {
-    rt.report(run(&rt))
+    match input(&rt) {
+        Ok(Some(bytes)) => rt.report(print_report(&rt, bytes.as_slice())),
+        Ok(None) => {
+            eprintln!(rt, "usage: bench [FILE]")?;
+            Err("more than one argument".into())
+        }
+        Err(e) => rt.report(Err(e)),
+    }
 }
