@@ -16,7 +16,10 @@ fn input(rt: &LibcRuntime) -> Result<Option<Vec<u8>>, AnyError> {
             rt.stdin().read_to_end(&mut bytes)?;
             Ok(Some(bytes))
         }
-        (Some(path), None) => Ok(Some(fs::read(rt, path.as_str())?)),
+        (Some(path), None) => match fs::read(rt, path.as_str()) {
+            Ok(bytes) => Ok(Some(bytes)),
+            Err(e) => Err(format!(rt.alloc(), "{path}: {e}")?.into()),
+        },
         (Some(_), Some(_)) => Ok(None),
     }
 }
@@ -29,13 +32,18 @@ fn print_report(rt: &LibcRuntime, bytes: &[u8]) -> Result<(), AnyError> {
     Ok(())
 }
 
-fn main(rt: LibcRuntime) -> Result<(), AnyError> {
-    match input(&rt) {
-        Ok(Some(bytes)) => rt.report(print_report(&rt, bytes.as_slice())),
-        Ok(None) => {
-            eprintln!(rt, "usage: bench [FILE]")?;
-            Err("more than one argument".into())
-        }
-        Err(e) => rt.report(Err(e)),
+fn run(rt: &LibcRuntime) -> Result<(), AnyError> {
+    match input(rt)? {
+        Some(bytes) => print_report(rt, bytes.as_slice()),
+        None => Err("usage: bench [FILE]".into()),
     }
+}
+
+// An error is one line on standard error, and status 1.
+fn main(rt: LibcRuntime) -> Result<(), AnyError> {
+    let ran = run(&rt);
+    if let Err(e) = &ran {
+        eprintln!(rt, "{e}")?;
+    }
+    ran
 }

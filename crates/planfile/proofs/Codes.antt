@@ -72,9 +72,10 @@ decodes end = refl
 
 -- two joined lists with fronts of one length
 even : (xs ys s t : List ℕ) → length xs ≡ length ys → xs ++ s ≡ ys ++ t → (xs ≡ ys) × (s ≡ t)
-even xs ys s t l e =
-    (sym (take-at xs s (length ys) l) ∙ ap (take (length ys)) e ∙ take-at ys t (length ys) refl,
-     sym (drop-at xs s (length ys) l) ∙ ap (drop (length ys)) e ∙ drop-at ys t (length ys) refl)
+even xs ys s t l e = (
+  sym (take-at xs s (length ys) l) ∙ ap (take (length ys)) e ∙ take-at ys t (length ys) refl,
+  sym (drop-at xs s (length ys) l) ∙ ap (drop (length ys)) e ∙ drop-at ys t (length ys) refl,
+)
 
 pub item-split : (x y : Item) (s t : List ℕ) → bytes x ++ s ≡ bytes y ++ t → (x ≡ y) × (s ≡ t)
 item-split x y s t e =
@@ -102,8 +103,8 @@ compared (x ∷ rs) (y ∷ ts) s t e =
     ⊎-elim
     (λ q. inl (λ i. p .0 i ∷ q i))
     (⊎-elim
-      (λ q. inr (inl (record { next = q .next; more = q .more; same = (λ i. p .0 i ∷ q .same i); rest = q .rest; there = q .there })))
-      (λ q. inr (inr (record { next = q .next; more = q .more; same = (λ i. sym (p .0) i ∷ q .same i); rest = q .rest; there = q .there }))))
+    (λ q. inr (inl (record { next = q .next; more = q .more; same = (λ i. p .0 i ∷ q .same i); rest = q .rest; there = q .there })))
+    (λ q. inr (inr (record { next = q .next; more = q .more; same = (λ i. sym (p .0) i ∷ q .same i); rest = q .rest; there = q .there }))))
     (compared rs ts s t (p .1))
 
 same-closures : (cs ds : List Closure) → map closure cs ++ (end ∷ []) ≡ map closure ds ++ (end ∷ []) → cs ≡ ds

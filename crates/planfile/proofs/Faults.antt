@@ -67,20 +67,24 @@ any-part = channel (record { subchannels = 1 })
 
 -- the records of a film and of plan records, which something follows
 follows-parts : (f : Film) (s : Sort) (ps : List Part) → Alike s ps → length ps ≤ most s → (x : Item) × Follows (film f ∷ map part ps) x
-follows-parts f s [] a w =
-    (part any-part, record {
-      sheet = record { opening = f; parts = any-part ∷ []; closed = [] };
-      lawful = record { of = pagoda; alike = (refl, tt); some = omega arith; within = omega arith; few = omega arith };
-      more = end ∷ [];
-      same = refl;
-    })
-follows-parts f s (p ∷ ps) a w =
-    (end, record {
-      sheet = record { opening = f; parts = p ∷ ps; closed = [] };
-      lawful = record { of = s; alike = a; some = omega arith; within = w; few = omega arith };
-      more = [];
-      same = refl;
-    })
+follows-parts f s [] a w = (
+  part any-part,
+  record {
+    sheet = record { opening = f; parts = any-part ∷ []; closed = [] };
+    lawful = record { of = pagoda; alike = (refl, tt); some = omega arith; within = omega arith; few = omega arith };
+    more = end ∷ [];
+    same = refl;
+  },
+)
+follows-parts f s (p ∷ ps) a w = (
+  end,
+  record {
+    sheet = record { opening = f; parts = p ∷ ps; closed = [] };
+    lawful = record { of = s; alike = a; some = omega arith; within = w; few = omega arith };
+    more = [];
+    same = refl;
+  },
+)
 
 follows-closures : (f : Film) (s : Sort) (ps : List Part) (cs : List Closure) → Alike s ps → 0 < length ps → length ps ≤ most s → length cs ≤ 64 → Follows (film f ∷ (map part ps ++ map closure cs)) end
 follows-closures f s ps cs a h w few = record {

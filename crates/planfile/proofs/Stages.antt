@@ -152,7 +152,7 @@ pub stuck : (rs : List Item) (x : Item) (st : Stage) → run start rs ≡ st →
 stuck rs x st e b f =
     let o : run start (records (f .sheet)) ≡ over = lawful-over (f .sheet) (f .lawful) in
     let h : run start (records (f .sheet)) ≡ bad =
-        ap (run start) (f .same) ∙ run-append start rs (x ∷ f .more) ∙ ap (λ st. run (place st (role x)) (f .more)) e ∙ ap (λ st. run st (f .more)) b ∙ run-bad (f .more) in
+    ap (run start) (f .same) ∙ run-append start rs (x ∷ f .more) ∙ ap (λ st. run (place st (role x)) (f .more)) e ∙ ap (λ st. run st (f .more)) b ∙ run-bad (f .more) in
     let q : over ≡ bad = sym o ∙ h in
     let z : _≡_ {A = ℕ} 0 1 = cc in
     omega arith

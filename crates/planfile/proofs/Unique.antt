@@ -66,8 +66,8 @@ module _ (file : List ℕ) where
       ⊎-elim
       (λ e. e)
       (⊎-elim
-        (λ p. absurd (k .none (p .next) (p .rest) (p .there) (follows-next rs ts _ (h .begins) p)))
-        (λ p. absurd (h .none (p .next) (p .rest) (p .there) (follows-next ts rs _ (k .begins) p))))
+      (λ p. absurd (k .none (p .next) (p .rest) (p .there) (follows-next rs ts _ (h .begins) p)))
+      (λ p. absurd (h .none (p .next) (p .rest) (p .there) (follows-next ts rs _ (k .begins) p))))
       (compared rs ts (drop b file) (drop d file) (sym (h .spans .reads) ∙ k .spans .reads))
 
   same-place : {rs ts : List Item} {b d : ℕ} → Spans file 0 b (encoded rs) → Spans file 0 d (encoded ts) → rs ≡ ts → b ≡ d

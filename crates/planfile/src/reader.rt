@@ -83,7 +83,11 @@ fn parse_plan(heap: Global, bytes: &[u8]) -> Result<Plan, Fault>
     if after_end < bytes.len() {
         return Err(Fault::AfterEnd(after_end));
     }
-    Ok(Plan { film, parts, closures })
+    Ok(Plan {
+        film,
+        parts,
+        closures,
+    })
 }
 
 // The plan that a file holds, or the first fault that it has.

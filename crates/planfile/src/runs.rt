@@ -11,7 +11,12 @@ use records::fault::*;
 use std::alloc::Global;
 
 // All records of one sort from `start` on, at most `most` of them, and where they end.
-pub fn read_run<L: Listed + Drop>(heap: Global, bytes: &[u8], start: usize, most: usize) -> Result<(Vec<L>, usize), Fault>
+pub fn read_run<L: Listed + Drop>(
+    heap: Global,
+    bytes: &[u8],
+    start: usize,
+    most: usize,
+) -> Result<(Vec<L>, usize), Fault>
     ensures reads_all { λ r. ⌜ Cases r (λ p. Run (L·Listed .item) (now (bytes .entry)) start most (p .1) (vec-items (p .0))) (RunFault (L·Listed .item) (now (bytes .entry)) start most) ⌝ }
 {
     let mut all = Vec::new(heap);

@@ -26,6 +26,7 @@ fn bytes_of_u32(n: u32) -> [u8; 4]
 // One kind of record.
 pub trait Record: Sized {
     const KIND: u8;
+
     const LENGTH: usize;
 
     // the kind byte
@@ -59,6 +60,7 @@ pub trait Record: Sized {
 
 pub impl Record for Film as FilmRecord {
     const KIND: u8 = 1;
+
     const LENGTH: usize = 5;
 
     ghost tag = { 1 };
@@ -81,7 +83,11 @@ pub impl Record for Film as FilmRecord {
         };
         let delay = u16::from_be_bytes([*m0, *m1]);
         let pages = u16::from_be_bytes([*n0, *n1]);
-        Some(Film { delay, pages, channels: *channels })
+        Some(Film {
+            delay,
+            pages,
+            channels: *channels,
+        })
     }
 
     fn append_body(&self, out: &mut Vec<u8>) -> Result<(), AllocError> {
@@ -93,6 +99,7 @@ pub impl Record for Film as FilmRecord {
 
 pub impl Record for Channel as ChannelRecord {
     const KIND: u8 = 2;
+
     const LENGTH: usize = 1;
 
     ghost tag = { 2 };
@@ -113,7 +120,9 @@ pub impl Record for Channel as ChannelRecord {
         let [subchannels] = bytes else {
             return None;
         };
-        Some(Channel { subchannels: *subchannels })
+        Some(Channel {
+            subchannels: *subchannels,
+        })
     }
 
     fn append_body(&self, out: &mut Vec<u8>) -> Result<(), AllocError> {
@@ -123,6 +132,7 @@ pub impl Record for Channel as ChannelRecord {
 
 pub impl Record for Row as RowRecord {
     const KIND: u8 = 3;
+
     const LENGTH: usize = 11;
 
     ghost tag = { 3 };
@@ -146,7 +156,12 @@ pub impl Record for Row as RowRecord {
         let page = u16::from_be_bytes([*p0, *p1]);
         let start = u32::from_be_bytes([*s0, *s1, *s2, *s3]);
         let period = u32::from_be_bytes([*q0, *q1, *q2, *q3]);
-        Some(Row { page, channel: *channel, start, period })
+        Some(Row {
+            page,
+            channel: *channel,
+            start,
+            period,
+        })
     }
 
     fn append_body(&self, out: &mut Vec<u8>) -> Result<(), AllocError> {
@@ -159,6 +174,7 @@ pub impl Record for Row as RowRecord {
 
 pub impl Record for Leaf as LeafRecord {
     const KIND: u8 = 4;
+
     const LENGTH: usize = 2;
 
     ghost tag = { 4 };
@@ -190,6 +206,7 @@ pub impl Record for Leaf as LeafRecord {
 
 pub impl Record for Inner as InnerRecord {
     const KIND: u8 = 5;
+
     const LENGTH: usize = 4;
 
     ghost tag = { 5 };
@@ -212,7 +229,10 @@ pub impl Record for Inner as InnerRecord {
         };
         let first_child = u16::from_be_bytes([*a0, *a1]);
         let degree = u16::from_be_bytes([*d0, *d1]);
-        Some(Inner { first_child, degree })
+        Some(Inner {
+            first_child,
+            degree,
+        })
     }
 
     fn append_body(&self, out: &mut Vec<u8>) -> Result<(), AllocError> {
@@ -224,6 +244,7 @@ pub impl Record for Inner as InnerRecord {
 
 pub impl Record for Closure as ClosureRecord {
     const KIND: u8 = 6;
+
     const LENGTH: usize = 5;
 
     ghost tag = { 6 };
@@ -245,7 +266,10 @@ pub impl Record for Closure as ClosureRecord {
             return None;
         };
         let slot = u32::from_be_bytes([*s0, *s1, *s2, *s3]);
-        Some(Closure { channel: *channel, slot })
+        Some(Closure {
+            channel: *channel,
+            slot,
+        })
     }
 
     fn append_body(&self, out: &mut Vec<u8>) -> Result<(), AllocError> {
@@ -256,6 +280,7 @@ pub impl Record for Closure as ClosureRecord {
 
 pub impl Record for End as EndRecord {
     const KIND: u8 = 0;
+
     const LENGTH: usize = 0;
 
     ghost tag = { 0 };

@@ -14,7 +14,12 @@ fn plan_lines(heap: Global, bytes: &[u8]) -> Result<Vec<Line>, ReportFault>
     ensures tells_the_plan { λ r. ⌜ Cases r (λ v. Told (now (bytes .entry)) (vec-items v)) (Untold (now (bytes .entry))) ⌝ }
 {
     let film = read_plan(heap, bytes)?.film;
-    Ok(vec![in heap; Line::Film(film.delay, film.pages, film.channels), Line::Wait(film.delay)]?)
+    Ok(
+        vec![in heap;
+            Line::Film(film.delay, film.pages, film.channels),
+            Line::Wait(film.delay),
+        ]?,
+    )
 }
 
 // The one line on a fault, unless it is want of memory.

@@ -20,10 +20,13 @@ pub returns-then-bytes-at : need.returns-then-bytes-at
 returns-then-bytes-at c =
     let known = c .in-Some .ensures tt .is-kind-length in
     record {
-      is-wrong = λ rs h r none. cut-short _ rs h r (inr (known .0, record {
-        opens = record { within = c .if-at-bytes .left; kind = sym (known .1) };
-        short = omega (arith, known .2);
-      }));
+      is-wrong = λ rs h r none. cut-short _ rs h r (inr (
+        known .0,
+        record {
+          opens = record { within = c .if-at-bytes .left; kind = sym (known .1) };
+          short = omega (arith, known .2);
+        },
+      ));
     }
 
 pub returns-else-bytes-at : need.returns-else-bytes-at

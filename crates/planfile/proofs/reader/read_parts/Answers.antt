@@ -57,9 +57,9 @@ returns c =
     let rs = c .in-Continue-rows .rows in
     let ns = c .in-Continue-nodes .nodes in
     let none = no-part file a
-        (empty-run _ file a _ _ (vec-items cs) (c .in-Continue-channels .ensures tt .reads-all) (omega (arith, cs .ok .0)))
-        (empty-run _ file a _ _ (vec-items rs) (c .in-Continue-rows .ensures tt .reads-all) (omega (arith, rs .ok .0)))
-        (empty-run _ file a _ _ (vec-items ns) (c .in-Continue-nodes .ensures tt .reads-all) (omega (arith, ns .ok .0))) in
+    (empty-run _ file a _ _ (vec-items cs) (c .in-Continue-channels .ensures tt .reads-all) (omega (arith, cs .ok .0)))
+    (empty-run _ file a _ _ (vec-items rs) (c .in-Continue-rows .ensures tt .reads-all) (omega (arith, rs .ok .0)))
+    (empty-run _ file a _ _ (vec-items ns) (c .in-Continue-nodes .ensures tt .reads-all) (omega (arith, ns .ok .0))) in
     record {
       reads-one-sort = λ f short first. c .misfit .ensures .is-wrong _ short (reached-parts file f short a first pagoda [] a tt (omega arith) (spans-none file a)) (not-part file a none f);
     }

@@ -27,6 +27,7 @@ loop-all-less g c =
 pub loop-all-again : need.loop-all-again
 loop-all-again g c =
     let item = g .L·Listed .item in
-    let was = chosen _ _ _ _ (c .push .ensures .items) (ap isOk (c .in-Continue-push .was tt)) in
-    (subst (λ l. Spans (c .args .bytes .now) (c .args .start) (c .in-Some .next) (encoded (map item l))) (sym was) (spans-push item (vec-items (c .loop-all .all)) (c .in-Some .one) (c .loop-all .inv .0) (found g c)),
-     search needs)
+    let was = chosen _ _ _ _ (c .push .ensures .items) (ap isOk (c .in-Continue-push .was tt)) in (
+      subst (λ l. Spans (c .args .bytes .now) (c .args .start) (c .in-Some .next) (encoded (map item l))) (sym was) (spans-push item (vec-items (c .loop-all .all)) (c .in-Some .one) (c .loop-all .inv .0) (found g c)),
+      search needs,
+    )

@@ -30,7 +30,7 @@ returns-in-Break-append-run c =
     record {
       makes-the-bytes = exit _ (Unappended (file-of p)) _ _ (c .from-residual-in-Break-append-run .ensures .1)
           (unappended-more _ (file-of p) _ (closures-fit (p .film) (listed (p .parts)) (vec-items (p .closures)) a b ea eb)
-            (subst (λ l. Unappended (b ++ encoded (map closure l)) (c .in-Break-append-run .field-0 .0)) (c .as-slice .ensures .value) (c .in-Break-append-run .ensures tt .appends-all)));
+          (subst (λ l. Unappended (b ++ encoded (map closure l)) (c .in-Break-append-run .field-0 .0)) (c .as-slice .ensures .value) (c .in-Break-append-run .ensures tt .appends-all)));
     }
 
 pub returns : need.returns
