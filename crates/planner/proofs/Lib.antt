@@ -1,0 +1,2 @@
+mod FastPlans
+mod Rounds
