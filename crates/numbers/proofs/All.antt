@@ -17,11 +17,12 @@ multiple-join : (xs ys : List ℕ) (m : ℕ) → MultipleOfAll xs m → Multiple
 multiple-join [] ys m h i = i
 multiple-join (x ∷ xs) ys m h i = (h .0, multiple-join xs ys m (h .1) i)
 
-multiple-front : (xs ys : List ℕ) (m : ℕ) → MultipleOfAll (xs ++ ys) m → MultipleOfAll xs m
+-- a multiple of all of a list is one of all of each part
+pub multiple-front : (xs ys : List ℕ) (m : ℕ) → MultipleOfAll (xs ++ ys) m → MultipleOfAll xs m
 multiple-front [] ys m h = tt
 multiple-front (x ∷ xs) ys m h = (h .0, multiple-front xs ys m (h .1))
 
-multiple-back : (xs ys : List ℕ) (m : ℕ) → MultipleOfAll (xs ++ ys) m → MultipleOfAll ys m
+pub multiple-back : (xs ys : List ℕ) (m : ℕ) → MultipleOfAll (xs ++ ys) m → MultipleOfAll ys m
 multiple-back [] ys m h = h
 multiple-back (x ∷ xs) ys m h = multiple-back xs ys m (h .1)
 

@@ -1,3 +1,7 @@
+ghost use mathlib.Core.Path.{_≡_};
+ghost use Rattle.planner.specs.declared.refusal.Refusal.the-variants.{OutOfMemory};
+use std::alloc::AllocError;
+
 // Why there is no plan.
 #[derive(Clone, Copy, Debug, PartialEq, Eq)]
 pub enum Refusal {
@@ -11,4 +15,12 @@ pub enum Refusal {
     PeriodTooLong,
     // There is no memory for the plan.
     OutOfMemory,
+}
+
+pub impl From<AllocError> for Refusal as RefusalFromAllocError {
+    ghost converts = { λ _ r. r ≡ OutOfMemory };
+
+    fn from(_: AllocError) -> Refusal {
+        Refusal::OutOfMemory
+    }
 }

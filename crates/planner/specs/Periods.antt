@@ -1,0 +1,15 @@
+-- The period of a plan: the least common multiple of its cycles, at most 65,536.
+use mathlib.Core.List.{List}
+use Prim.Native.Nat.{ℕ, _<_, _≤_}
+use Rattle.std.specs.Options.{Cases}
+use Rattle.std.specs.declared.option.Option.{Option}
+use Rattle.numbers.specs.Divisors.{LeastCommonMultipleOfAll}
+
+abbrev pub longest-period : ℕ
+longest-period = 65536
+
+-- the period that the cycles have together, or none where it is too long
+abbrev pub PeriodOf : List ℕ → Option ℕ → Type 0
+PeriodOf cycles answer =
+    Cases answer ((l : ℕ) × LeastCommonMultipleOfAll cycles l × (longest-period < l))
+    (λ l. LeastCommonMultipleOfAll cycles l × (l ≤ longest-period) × (0 < l))
