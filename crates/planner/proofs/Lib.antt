@@ -1,0 +1,7 @@
+mod Channels
+mod FastPlans
+mod PagodaPlans
+mod PagodaSounds
+mod Questions
+mod Rounds
+mod Table

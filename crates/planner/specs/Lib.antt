@@ -1,0 +1,5 @@
+pub mod Dealing
+pub mod Fast
+pub mod FastAnswers
+pub mod Pagoda
+pub mod PagodaAnswers

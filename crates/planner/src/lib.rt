@@ -1,0 +1,4 @@
+// Planners: from the numbers of a film to a timetable that starves nobody, or to a refusal.
+pub mod fast;
+pub mod pagoda;
+pub mod subchannel;

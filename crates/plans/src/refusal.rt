@@ -1,0 +1,28 @@
+ghost use mathlib.Core.Path.{_≡_};
+ghost use Rattle.plans.specs.declared.refusal.Refusal.the-variants.{OutOfMemory};
+use std::alloc::AllocError;
+
+// Why there is no plan.
+#[derive(Clone, Copy, Debug, PartialEq, Eq)]
+pub enum Refusal {
+    // The delay, the pages, the channels or the number of nodes are out of range.
+    OutOfRange,
+    // A channel has no subchannel or more than 32, or more than its first page's window has slots.
+    WrongSubchannels,
+    // The channels carry more than 1,024 pages.
+    TooManyPages,
+    // The period, or that of a node of a tree, is above 65,536; or a row has no period.
+    PeriodTooLong,
+    // The node with this number is an inner node with no children, or with children that do not come after it or are not there.
+    WrongNode(usize),
+    // There is no memory for the plan.
+    OutOfMemory,
+}
+
+pub impl From<AllocError> for Refusal as RefusalFromAllocError {
+    ghost converts = { λ _ r. r ≡ OutOfMemory };
+
+    fn from(_: AllocError) -> Refusal {
+        Refusal::OutOfMemory
+    }
+}

@@ -1,0 +1,4 @@
+pub mod Closed
+pub mod Grid
+pub mod Meaning
+pub mod Windows

@@ -1,0 +1,3 @@
+// Timetables: which page each channel carries in each slot, over and over.
+pub mod grid;
+pub mod interface;
