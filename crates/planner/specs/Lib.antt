@@ -5,3 +5,4 @@ pub mod Pagoda
 pub mod PagodaAnswers
 pub mod Periods
 pub mod Refusals
+pub mod Worked

@@ -4,3 +4,4 @@ pub mod pagoda;
 mod period;
 pub mod refusal;
 pub mod subchannel;
+pub mod worked;
