@@ -3,6 +3,8 @@ use Prim.Native.Nat.{ℕ}
 use native.Mathlib.Omega.{arith}
 use lib.ListN.{length}
 use Rattle.std.specs.declared.option.Option.{Option}
+use Rattle.std.specs.Changed.{refilled}
+use Rattle.std.specs.Of.Vec.{vec-items, vec-len}
 use Rattle.std.proofs.shelf.Lists.{refilled-is}
 use Rattle.planner.specs.Pagoda.{Deals, FirstsLaid, SharesLaid, cycles}
 use Rattle.plans.specs.Periods.{PeriodOf}
@@ -19,13 +21,13 @@ ghost-result c =
       (
         period .2,
         (
-          moved (λ cs n t. Deals (c .args .delay) cs n) _ _ _ _ _ _ (made .0) (made .1) same (dealt .deals),
+          moved (λ cs n t. Deals (c .args .delay) cs n) (c .args .channels .now) (vec-items (c .in-Continue-channels .channels)) (length (c .args .channels .now)) (vec-len (c .in-Continue-channels .channels)) (c .deal .last .table) (refilled (c .in-Continue-table .table) (c .deal .last .table) .items) (made .0) (made .1) same (dealt .deals),
           (
             omega (arith, made .1, c .in-Continue-table .ensures tt .made .1),
             (
-              moved (FirstsLaid (c .args .delay)) _ _ _ _ _ _ (made .0) (made .1) same (dealt .firsts),
+              moved (FirstsLaid (c .args .delay)) (c .args .channels .now) (vec-items (c .in-Continue-channels .channels)) (length (c .args .channels .now)) (vec-len (c .in-Continue-channels .channels)) (c .deal .last .table) (refilled (c .in-Continue-table .table) (c .deal .last .table) .items) (made .0) (made .1) same (dealt .firsts),
               (
-                moved (SharesLaid (c .args .delay)) _ _ _ _ _ _ (made .0) (made .1) same (dealt .shares),
+                moved (SharesLaid (c .args .delay)) (c .args .channels .now) (vec-items (c .in-Continue-channels .channels)) (length (c .args .channels .now)) (vec-len (c .in-Continue-channels .channels)) (c .deal .last .table) (refilled (c .in-Continue-table .table) (c .deal .last .table) .items) (made .0) (made .1) same (dealt .shares),
                 tt,
               ),
             ),
