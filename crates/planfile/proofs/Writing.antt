@@ -7,6 +7,7 @@ use native.Mathlib.Omega.{arith}
 use lib.ListN.{length, take, drop, length-append}
 use Rattle.std.specs.Results.{Cases}
 use Rattle.std.proofs.shelf.Lists.{take-at}
+use Rattle.std.specs.declared.option.Option.the-variants.{Some, None}
 use Rattle.std.specs.declared.result.Result.{Result}
 use Rattle.std.specs.declared.result.Result.the-variants.{Ok, Err}
 use Rattle.records.specs.Faults.{told}
@@ -15,11 +16,12 @@ use Rattle.records.specs.declared.fault.Fault.the-variants.{CutShort, UnknownKi
 use Rattle.planfile.specs.declared.fault.WriteFault.{WriteFault}
 use Rattle.planfile.specs.declared.fault.WriteFault.the-variants.{Unfit, NoRoom}
 use Rattle.planfile.specs.declared.plan.Plan.{Plan}
-use Rattle.planfile.specs.Items.{Item, bytes}
+use Rattle.planfile.specs.Items as items
+use Rattle.planfile.specs.Items.{Item}
 use Rattle.planfile.specs.Format.{Lawful, records, encoded, Refused, too-long}
 use Rattle.planfile.specs.Answers.{sheet, file-of, Reads, Answers}
 use Rattle.planfile.specs.Runs.{Unappended}
-use Rattle.planfile.specs.Writing.{told-write, Unwritten, unfit, no-room, no-memory, Wrote, Written, ReadsBack, WritesBack}
+use Rattle.planfile.specs.Writing.{PutAll, told-write, Unwritten, unfit, no-room, no-memory, Wrote, Written, ReadsBack, WritesBack}
 use Rattle.planfile.proofs.Codes.{Longer, compared, same-sheet}
 use Rattle.planfile.proofs.Unique.{unrefused, one-sheet, is-memory}
 
@@ -29,7 +31,7 @@ not-made p room f (inl e) = subst (λ f. Unwritten p room (told f .0) (told f .1
 not-made p room f (inr e) = subst (λ f. Unwritten p room (told f .0) (told f .1)) (sym (e .0)) (unfit 46 (0 ∷ []) (too-long (e .1)))
 
 not-longer : (rs ts : List Item) → Longer rs ts [] → ⊥
-not-longer rs ts p = omega (arith, ap length (p .there), length-append (bytes (p .next)) (p .rest))
+not-longer rs ts p = omega (arith, ap length (p .there), length-append (items.bytes (p .next)) (p .rest))
 
 -- a list of records is told by its bytes
 same-records : (rs ts : List Item) → encoded rs ≡ encoded ts → rs ≡ ts
@@ -42,6 +44,18 @@ same-records rs ts e =
 -- a plan whose bytes read as a plan is lawful
 pub lawful-if-read : (p q : Plan) → Reads (file-of p) q → Lawful (sheet p)
 lawful-if-read p q r = subst Lawful (sym (same-sheet (sheet p) (sheet q) (same-records _ _ (r .whole)))) (r .lawful)
+
+-- what putting the bytes of a plan that reads leaves
+pub wrote-of : (p q : Plan) (bytes was now : List ℕ) (n : ℕ) → bytes ≡ file-of p → Reads (file-of p) q → PutAll bytes was now (Some n) → Wrote p was now n
+wrote-of p q bytes was now n e r w = record {
+  lawful = lawful-if-read p q r;
+  count = w .0 ∙ ap length e;
+  room = w .1;
+  after = w .2 ∙ ap (λ l. l ++ drop n was) e;
+}
+
+pub no-room-of : (p q : Plan) (bytes was now : List ℕ) → bytes ≡ file-of p → Reads (file-of p) q → PutAll bytes was now None → Unwritten p (length was) 13 [] × (now ≡ was)
+no-room-of p q bytes was now e r w = (no-room (lawful-if-read p q r) (omega (arith, w .0, ap length e)), w .1)
 
 read-again : (p : Plan) (file : List ℕ) → Lawful (sheet p) → file ≡ file-of p → (s : Result Plan Fault) → Answers file s → Cases s (λ q. sheet q ≡ sheet p) (λ f. f ≡ Memory)
 read-again p file l e (Ok q) a = one-sheet file (sheet q) (sheet p) (a .lawful) l (a .whole) e

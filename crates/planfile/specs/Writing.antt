@@ -5,6 +5,8 @@ use mathlib.Core.List.{List, [], _++_}
 use Prim.Native.Nat.{ℕ, _<_, _≤_}
 use lib.ListN.{length, take, drop}
 use Rattle.std.specs.Results.{Cases}
+use Rattle.std.specs.declared.option.Option.{Option}
+use Rattle.std.specs.declared.option.Option.the-variants.{Some, None}
 use Rattle.std.specs.declared.result.Result.{Result}
 use Rattle.records.specs.Faults.{told}
 use Rattle.records.specs.declared.fault.Fault.{Fault}
@@ -14,6 +16,11 @@ use Rattle.planfile.specs.declared.fault.WriteFault.the-variants.{Unfit, NoRoo
 use Rattle.planfile.specs.declared.plan.Plan.{Plan}
 use Rattle.planfile.specs.Format.{Lawful, Refused}
 use Rattle.planfile.specs.Answers.{sheet, file-of, Reads, Answers}
+
+-- the bytes stand at the beginning of the list and the rest is as it was, or the list is too short and as it was
+abbrev pub PutAll : List ℕ → List ℕ → List ℕ → Option ℕ → Type 0
+PutAll xs was now (Some n) = (n ≡ length xs) × (n ≤ length was) × (now ≡ xs ++ drop n was)
+PutAll xs was now None = (length was < length xs) × (now ≡ was)
 
 -- a fault's number and values
 abbrev pub told-write : WriteFault → ℕ × List ℕ

@@ -5,7 +5,7 @@ ghost use Rattle.planfile.specs.Answers.{file-of, listed as parts-of};
 ghost use Rattle.planfile.specs.Format.{encoded};
 ghost use Rattle.planfile.specs.Items.{part};
 ghost use Rattle.planfile.specs.Runs.{Unappended};
-ghost use Rattle.planfile.specs.Writing.{Written, ReadsBack, WritesBack};
+ghost use Rattle.planfile.specs.Writing.{PutAll, Written, ReadsBack, WritesBack};
 ghost use Rattle.std.specs.Of.Vec.{vec-items};
 ghost use Rattle.std.specs.Results.{Cases};
 use crate::fault::*;
@@ -30,8 +30,8 @@ fn append_parts(parts: &Parts, out: &mut Vec<u8>) -> Result<(), Fault>
     }
 }
 
-// The bytes of a plan.
-fn encode(heap: Global, plan: &Plan) -> Result<Vec<u8>, Fault>
+// The bytes of a plan. They may be more than a file may have: then they are not made.
+pub fn plan_bytes(heap: Global, plan: &Plan) -> Result<Vec<u8>, Fault>
     ensures makes_the_bytes { λ r. ⌜ Cases r (λ v. vec-items v ≡ file-of (now (plan .entry))) (Unappended (file-of (now (plan .entry)))) ⌝ }
 {
     let mut out = Vec::new(heap);
@@ -42,17 +42,27 @@ fn encode(heap: Global, plan: &Plan) -> Result<Vec<u8>, Fault>
     Ok(out)
 }
 
+// Puts bytes at the beginning of a list and answers how many they are, or changes nothing where the list is shorter.
+pub fn put_bytes(bytes: &[u8], out: &mut [u8]) -> Option<usize>
+    ensures puts_all_or_nothing { λ r. ⌜ PutAll (now (bytes .entry)) (now (out .entry)) (now (out .exit)) r ⌝ }
+{
+    let length = bytes.len();
+    if out.len() < length {
+        return None;
+    }
+    out[0..length].copy_from_slice(bytes);
+    Some(length)
+}
+
 fn put_plan(heap: Global, plan: &Plan, out: &mut [u8]) -> Result<usize, WriteFault>
     ensures writes { λ r. ⌜ Written (now (plan .entry)) (now (out .entry)) (now (out .exit)) r ⌝ }
 {
-    let bytes = encode(heap, plan)?;
+    let bytes = plan_bytes(heap, plan)?;
     read_plan(heap, bytes.as_slice())?;
-    let length = bytes.len();
-    if out.len() < length {
-        return Err(WriteFault::NoRoom);
+    match put_bytes(bytes.as_slice(), out) {
+        Some(length) => Ok(length),
+        None => Err(WriteFault::NoRoom),
     }
-    out[0..length].copy_from_slice(bytes.as_slice());
-    Ok(length)
 }
 
 // Writes a plan to the beginning of `out`, and answers how many bytes it took. What reading would refuse is not written, and then `out` stays as it was.

@@ -9,8 +9,8 @@ use Rattle.records.specs.Faults.{told}
 use Rattle.planfile.specs.declared.fault.WriteFault.the-variants.{Unfit}
 use Rattle.planfile.specs.Answers.{file-of, Reads}
 use Rattle.planfile.specs.Format.{Refused}
-use Rattle.planfile.specs.Writing.{Wrote, Unwritten, unfit, no-room, told-write}
-use Rattle.planfile.proofs.Writing.{not-made, lawful-if-read}
+use Rattle.planfile.specs.Writing.{Wrote, Unwritten, unfit, told-write}
+use Rattle.planfile.proofs.Writing.{not-made, wrote-of, no-room-of}
 use Rattle.planfile.proofs.writer.put_plan.Needs as need
 
 pub returns-in-Break-bytes : need.returns-in-Break-bytes
@@ -34,29 +34,18 @@ returns-in-Break-read-plan c =
           (unfit _ _ (subst (λ l. Refused l (told f .0) (told f .1)) same (c .in-Break-read-plan .ensures tt .answers)), refl);
     }
 
-pub returns-then-out-length : need.returns-then-out-length
-returns-then-out-length c =
+pub returns-in-Some : need.returns-in-Some
+returns-in-Some c =
     let p = c .args .plan .now in
     let q = c .in-Continue-read-plan .field-0 in
-    let bytes = c .in-Continue-bytes .bytes in
     let made = c .in-Continue-bytes .ensures tt .makes-the-bytes in
     let read = subst (λ l. Reads l q) (c .as-slice .ensures .value ∙ made) (c .in-Continue-read-plan .ensures tt .answers) in
-    record { writes = (no-room (lawful-if-read p q read) (omega (arith, ap length made, bytes .ok .0)), refl) }
+    record { writes = wrote-of p q _ (c .args .out .now) _ _ (c .as-slice-2 .ensures .value ∙ made) read (c .in-Some .ensures tt .puts-all-or-nothing) }
 
 pub returns : need.returns
 returns c =
     let p = c .args .plan .now in
     let q = c .in-Continue-read-plan .field-0 in
-    let bytes = c .in-Continue-bytes .bytes in
     let made = c .in-Continue-bytes .ensures tt .makes-the-bytes in
     let read = subst (λ l. Reads l q) (c .as-slice .ensures .value ∙ made) (c .in-Continue-read-plan .ensures tt .answers) in
-    let front = c .copy-from-slice .ensures .after ∙ c .as-slice-2 .ensures .value ∙ made in
-    let n : c .len-length .result - 0 ≡ c .len-length .result = omega arith in
-    record {
-      writes = record {
-        lawful = lawful-if-read p q read;
-        count = omega (arith, ap length made, bytes .ok .0);
-        room = c .if-out-length .left;
-        after = λ i. front i ++ drop (n i) (c .args .out .now);
-      };
-    }
+    record { writes = no-room-of p q _ (c .args .out .now) _ (c .as-slice-2 .ensures .value ∙ made) read (c .in-None .ensures tt .puts-all-or-nothing) }

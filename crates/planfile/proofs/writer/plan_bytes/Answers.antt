@@ -8,7 +8,7 @@ use Rattle.planfile.specs.Format.{encoded}
 use Rattle.planfile.specs.Items.{film, closure, bytes}
 use Rattle.planfile.specs.Runs.{Unappended}
 use Rattle.planfile.proofs.Lists.{assembled, parts-fit, closures-fit, unappended-more}
-use Rattle.planfile.proofs.writer.encode.Needs as need
+use Rattle.planfile.proofs.writer.plan_bytes.Needs as need
 
 pub returns-in-Break-append-parts : need.returns-in-Break-append-parts
 returns-in-Break-append-parts c =
