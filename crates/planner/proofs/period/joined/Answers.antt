@@ -1,5 +1,4 @@
 use mathlib.Core.Path.{subst}
-use mathlib.Core.List.{List}
 use Prim.Native.Nat.{ℕ}
 use Rattle.std.specs.declared.option.Option.{Option}
 use Rattle.planner.specs.Periods.{PeriodOf}
