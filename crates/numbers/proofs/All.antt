@@ -1,12 +1,12 @@
 -- Laws of the least common multiple of a list, and of what is computed.
-use mathlib.Core.Path.{_≡_, refl, sym, _∙_, ap}
+use mathlib.Core.Path.{_≡_}
 use mathlib.Core.List.{List, [], _∷_, _++_}
-use Prim.Native.Nat.{ℕ, zero, suc, _+_, _-_, _*_, _/_, _%_, _<_, _≤_}
-use native.Mathlib.Nat.{mul-comm, mul-zero, zero-mul, mul-pos, mod-lt}
+use Prim.Native.Nat.{ℕ, zero, suc, _*_, _/_, _%_, _<_, _≤_}
+use native.Mathlib.Nat.{mod-lt}
 use native.Mathlib.Omega.{arith}
 use Rattle.numbers.specs.Divisors.{Divides, GreatestCommonDivisor, LeastCommonMultiple, MultipleOfAll, LeastCommonMultipleOfAll}
 use Rattle.numbers.specs.Computed.{gcd-in, gcd-of, lcm-of, lcm-of-all}
-use Rattle.numbers.proofs.Dividing.{divides-self, divides-zero, one-divides, zero-divides, divides-times, divides-trans, divides-antisym, divides-le, divides-positive}
+use Rattle.numbers.proofs.Dividing.{one-divides, divides-trans, divides-antisym, divides-le}
 use Rattle.numbers.proofs.Common.{gcd-zero, gcd-step, gcd-of-zeros, lcm-from-gcd, lcm-of-zeros, lcm-positive}
 
 multiple-further : (xs : List ℕ) (l m : ℕ) → MultipleOfAll xs l → Divides l m → MultipleOfAll xs m

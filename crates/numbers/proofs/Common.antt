@@ -1,11 +1,10 @@
 -- Laws of the greatest common divisor and the least common multiple.
-use mathlib.Core.Path.{_≡_, refl, sym, _∙_, ap, subst}
-use mathlib.Core.List.{List, [], _∷_}
-use Prim.Native.Nat.{ℕ, zero, suc, _+_, _-_, _*_, _/_, _%_, _<_, _≤_}
+use mathlib.Core.Path.{_≡_, refl, sym, _∙_, ap}
+use Prim.Native.Nat.{ℕ, zero, suc, _-_, _*_, _/_, _%_, _<_, _≤_}
 use native.Mathlib.Nat.{mul-comm, mul-assoc, mul-left-comm, mul-zero, zero-mul, mul-div-cancel, mul-pos, mod-lt, mod-def, mul-div-mul-left, mul-sub}
 use native.Mathlib.Omega.{arith}
-use Rattle.numbers.specs.Divisors.{Divides, GreatestCommonDivisor, LeastCommonMultiple, MultipleOfAll, LeastCommonMultipleOfAll}
-use Rattle.numbers.proofs.Dividing.{divides-self, divides-zero, one-divides, zero-divides, divides-times, divides-trans, divides-antisym, divides-le, divides-positive, divides-cancel, divides-remainder, divides-from-remainder}
+use Rattle.numbers.specs.Divisors.{Divides, GreatestCommonDivisor, LeastCommonMultiple}
+use Rattle.numbers.proofs.Dividing.{divides-self, divides-zero, zero-divides, divides-antisym, divides-le, divides-positive, divides-cancel, divides-remainder, divides-from-remainder}
 
 -- the greatest common divisor of a and 0 is a
 pub gcd-zero : (a : ℕ) → GreatestCommonDivisor a 0 a

@@ -1,7 +1,6 @@
 -- Laws of divisors, and of remainders by a divisor.
-use mathlib.Core.Path.{_≡_, refl, sym, _∙_, ap}
-use mathlib.Core.Logic.{_↔_}
-use Prim.Native.Nat.{ℕ, zero, suc, _+_, _-_, _*_, _/_, _%_, _<_, _≤_, _∣_}
+use mathlib.Core.Path.{_≡_, sym, _∙_, ap}
+use Prim.Native.Nat.{ℕ, zero, suc, _+_, _*_, _/_, _%_, _<_, _≤_, _∣_}
 use native.Mathlib.Nat.{mul-comm, mul-assoc, one-mul, zero-mul, div-add-mod', mod-eq-zero-of-dvd, dvd-antisymm, dvd-trans, dvd-mod-iff, le-of-dvd, mod-mod-of-dvd, dvd-of-mul-dvd-mul-left, mul-add-mod-self-right}
 use native.Mathlib.Omega.{arith}
 use Rattle.numbers.specs.Divisors.{Divides}

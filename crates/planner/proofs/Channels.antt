@@ -1,14 +1,13 @@
 -- The pages of one channel that begins with page f, of s subchannels, at the delay m.
-use mathlib.Core.Path.{_≡_, refl, sym, _∙_, ap}
-use mathlib.Core.Logic.{_⊎_, inl, inr}
-use Prim.Native.Nat.{ℕ, zero, suc, _+_, _-_, _*_, _/_, _%_, _<_, _≤_}
+use mathlib.Core.Logic.{inl, inr}
+use Prim.Native.Nat.{ℕ, zero, suc, _*_, _<_, _≤_}
 use native.Mathlib.Nat.{mul-div-le}
 use native.Mathlib.Omega.{arith}
 use native.Mathlib.Decide.{le-ind}
 use Rattle.std.proofs.shelf.Bits.{le-div}
 use Rattle.std.proofs.shelf.Tests.{cases-lt}
 use Rattle.timetable.specs.Windows.{window}
-use Rattle.planner.specs.Pagoda.{Takes, share, after, first-of, share-of}
+use Rattle.planner.specs.Pagoda.{Takes, first-of, share-of}
 
 module _ (m s f : ℕ) where
   -- later subchannels begin with later pages

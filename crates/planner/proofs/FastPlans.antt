@@ -1,16 +1,16 @@
 -- A fast plan starves nobody.
-use mathlib.Core.Path.{_≡_, refl, sym, _∙_, ap}
+use mathlib.Core.Path.{_≡_, _∙_, ap}
 use mathlib.Core.List.{[]}
-use mathlib.Core.Logic.{_⊎_, inl, inr}
-use Prim.Native.Nat.{ℕ, zero, suc, _+_, _-_, _*_, _%_, _^_, _<_, _≤_}
-use native.Mathlib.Nat.{mod-lt, pow-suc}
+use mathlib.Core.Logic.{inl, inr}
+use Prim.Native.Nat.{ℕ, zero, suc, _+_, _-_, _%_, _^_, _<_, _≤_}
+use native.Mathlib.Nat.{mod-lt}
 use native.Mathlib.Omega.{arith}
 use lib.Pow.{pow-pos, pow-mono, pow-add}
 use Rattle.std.proofs.shelf.Tests.{cases-lt}
 use Rattle.numbers.specs.Divisors.{Divides}
 use Rattle.numbers.proofs.Dividing.{mod-of-multiple}
 use Rattle.timetable.specs.Closed.{aired}
-use Rattle.timetable.specs.Windows.{Sound, Starves, Comes}
+use Rattle.timetable.specs.Windows.{Sound, Starves}
 use Rattle.timetable.proofs.Repeating.{page-of-at, page-of-below}
 use Rattle.planner.specs.Fast.{fast, fast-page, fast-delay, fast-pages}
 use Rattle.planner.proofs.Rounds.{comes-round, Comes-round}

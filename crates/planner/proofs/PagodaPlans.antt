@@ -1,8 +1,8 @@
 -- A pagoda plan starves nobody.
-use mathlib.Core.Path.{_≡_, refl, sym, _∙_, ap, subst}
-use mathlib.Core.List.{List, [], _∷_, _++_}
-use mathlib.Core.Logic.{_⊎_, inl, inr}
-use Prim.Native.Nat.{ℕ, zero, suc, _+_, _-_, _*_, _/_, _%_, _^_, _<_, _≤_}
+use mathlib.Core.Path.{_≡_, sym, _∙_, ap, subst}
+use mathlib.Core.List.{List, []}
+use mathlib.Core.Logic.{inl, inr}
+use Prim.Native.Nat.{ℕ, zero, suc, _+_, _-_, _*_, _/_, _%_, _<_, _≤_}
 use native.Mathlib.Nat.{mod-lt, mul-comm}
 use native.Mathlib.Omega.{arith}
 use native.Mathlib.Decide.{le-ind}
@@ -10,13 +10,13 @@ use lib.Arith.{digits-lt}
 use lib.ListN.{length}
 use Rattle.std.proofs.shelf.Tests.{cases-lt}
 use Rattle.records.specs.declared.kinds.Channel.{Channel}
-use Rattle.numbers.specs.Divisors.{Divides, MultipleOfAll, LeastCommonMultipleOfAll}
+use Rattle.numbers.specs.Divisors.{Divides, MultipleOfAll}
 use Rattle.numbers.proofs.All.{multiple-front, multiple-back}
 use Rattle.numbers.proofs.Dividing.{mod-of-multiple}
 use Rattle.timetable.specs.Closed.{aired}
-use Rattle.timetable.specs.Windows.{Sound, Starves, window}
+use Rattle.timetable.specs.Windows.{Sound, Starves}
 use Rattle.timetable.proofs.Repeating.{page-of-at, page-of-below}
-use Rattle.planner.specs.Pagoda.{Deals, count-at, begins, share, share-of, first-of, round, channel-cycles, cycles, pagoda, pagoda-page, pagoda-pages}
+use Rattle.planner.specs.Pagoda.{Deals, count-at, begins, share-of, first-of, round, channel-cycles, cycles, pagoda, pagoda-page, pagoda-pages}
 use Rattle.planner.proofs.Channels.{first-of-grows, first-of-low, share-some, cycle-fits, Subchannel-of, subchannel-of}
 use Rattle.planner.proofs.Rounds.{comes-round, Comes-round, place-parts}
 

@@ -1,12 +1,12 @@
 -- What a pagoda plan keeps answers its questions.
-use mathlib.Core.Path.{_≡_, refl, sym, _∙_, ap}
+use mathlib.Core.Path.{_≡_, sym, ap}
 use mathlib.Core.List.{List}
 use Prim.Native.Nat.{ℕ, suc, _+_, _-_, _*_, _/_, _%_, _<_, _≤_}
 use native.Mathlib.Omega.{arith}
 use lib.ListN.{length, getD}
 use Rattle.std.proofs.shelf.Lists.{getD-read}
 use Rattle.records.specs.declared.kinds.Channel.{Channel}
-use Rattle.planner.specs.Pagoda.{Deals, count-at, begins, share, share-of, first-of, round, place, pagoda, pagoda-page}
+use Rattle.planner.specs.Pagoda.{Deals, count-at, begins, share-of, first-of, place, pagoda}
 use Rattle.planner.specs.declared.subchannel.Subchannel.{Subchannel}
 use Rattle.planner.proofs.Channels.{first-of-grows}
 use Rattle.planner.proofs.PagodaPlans.{pagoda-at}

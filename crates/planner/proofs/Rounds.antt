@@ -1,6 +1,6 @@
 -- Every place of a cycle comes once in as many slots as the cycle has.
-use mathlib.Core.Path.{_≡_, refl, sym, _∙_, ap}
-use mathlib.Core.Logic.{_⊎_, inl, inr}
+use mathlib.Core.Path.{_≡_, sym, _∙_, ap}
+use mathlib.Core.Logic.{inl, inr}
 use Prim.Native.Nat.{ℕ, _+_, _-_, _*_, _/_, _%_, _<_, _≤_}
 use native.Mathlib.Nat.{mod-add-mod, mod-eq-of-lt, add-mod-right, mod-lt}
 use native.Mathlib.Omega.{arith}

@@ -16,7 +16,7 @@ use Rattle.planner.specs.Pagoda.{Deals, Takes, count-at, begins, place, cycles
 use Rattle.planner.specs.declared.pagoda.deal.Progress.{Progress}
 use Rattle.planner.proofs.Channels.{first-of-low}
 use Rattle.plans.specs.Periods.{PeriodOf}
-use Rattle.planner.specs.Dealing.{at, RowLaid, KeptBelow, ChannelDealt, DealtTo}
+use Rattle.planner.specs.Dealing.{RowLaid, KeptBelow, ChannelDealt, DealtTo}
 use Rattle.planner.specs.declared.subchannel.Subchannel.{Subchannel}
 
 pub row-laid-more : (m s f n : ℕ) (table : List Subchannel) (row : ℕ) (x : Subchannel) → row + n < length table → x .first ≡ first-of m s f n → x .pages ≡ share-of m s f n → RowLaid m s f n table row → RowLaid m s f (n + 1) (set table (row + n) x) row

@@ -1,5 +1,4 @@
 ghost use Prim.Native.Nat.{_≤_};
-ghost use Rattle.planner.specs.Fast.{fast, fast-lawful};
 
 mod calls;
 

@@ -1,2 +1,3 @@
+mod Closing
 pub mod Periods
 pub mod Repeating

@@ -1,5 +1,5 @@
 -- What a timetable carries depends on the place in its period alone.
-use mathlib.Core.Path.{_≡_, refl, sym, _∙_, ap}
+use mathlib.Core.Path.{_≡_, sym, _∙_, ap}
 use Prim.Native.Nat.{ℕ, zero, suc, _+_, _*_, _/_, _%_}
 use native.Mathlib.Nat.{add-mul, mod-add-div'}
 use native.Mathlib.Omega.{arith}

@@ -18,7 +18,7 @@ use timetable::interface::Timetable;
 fn planned(heap: Global, delay: u16, channels: &[Channel]) -> Result<Pagoda, Refusal>
     ensures plan_or_refusal { λ r. ⌜ PagodaAnswer delay (now (channels .entry)) r ⌝ }
 {
-    if delay == 0 || delay > 1024 || channels.len() == 0 || channels.len() > 8 {
+    if delay == 0 || delay > 1024 || channels.is_empty() || channels.len() > 8 {
         return Err(Refusal::OutOfRange);
     }
     let blank = Subchannel { first: 0, pages: 0 };

@@ -1,8 +1,7 @@
-use mathlib.Core.Path.{_≡_, sym}
-use Prim.Native.Nat.{ℕ, suc, _+_, _*_, _<_, _≤_}
+use mathlib.Core.Path.{_≡_}
+use Prim.Native.Nat.{ℕ, _+_, _*_}
 use native.Mathlib.Nat.{mul-pos}
 use native.Mathlib.Omega.{arith}
-use Rattle.planner.specs.Pagoda.{first-of, share-of}
 use Rattle.planner.proofs.Channels.{first-of-grows, share-some}
 use Rattle.planner.proofs.Table.{row-laid-more, kept-below-more, next-first, next-share, next-period}
 use Rattle.planner.proofs.pagoda.deal.deal_channel.Needs as need
