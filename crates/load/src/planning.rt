@@ -1,0 +1,34 @@
+// From the records of a plan to its timetable.
+ghost use Rattle.load.specs.Planning.{FilmInRange, PagodaAnswered};
+ghost use Rattle.std.specs.Orderings.{When};
+use plans::refusal::Refusal;
+use planner::pagoda::Pagoda;
+use records::kinds::Channel;
+use records::kinds::Film;
+use std::alloc::Global;
+
+// Whether the numbers of a film are such as a plan may have.
+fn in_range(film: Film) -> bool
+    ensures decides { λ r. ⌜ When r (FilmInRange film) (FilmInRange film → ⊥) ⌝ }
+{
+    1 <= film.delay
+        && film.delay <= 1024
+        && 1 <= film.pages
+        && film.pages <= 1024
+        && 1 <= film.channels
+        && film.channels <= 8
+}
+
+// The pagoda plan of a film, which has to have as many channels and pages as the film.
+fn pagoda_of(heap: Global, film: Film, channels: &[Channel]) -> Result<Pagoda, Refusal>
+    ensures plans_or_refuses { λ r. ⌜ PagodaAnswered film (now (channels .entry)) r ⌝ }
+{
+    if channels.len() != usize::from(film.channels) {
+        return Err(Refusal::OutOfRange);
+    }
+    let plan = Pagoda::plan(heap, film.delay, channels)?;
+    if plan.pages() != film.pages {
+        return Err(Refusal::OutOfRange);
+    }
+    Ok(plan)
+}
