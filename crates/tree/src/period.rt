@@ -90,3 +90,18 @@ fn period_of(node: Node, periods: &[u32]) -> Option<u32>
         }
     }
 }
+
+// Sets the period of each node, from the last node to the first; false as soon as one is too long.
+fn fill_periods(periods: &mut [u32], nodes: &[Node]) -> bool
+    requires one_each { ⌜ length (now periods) ≡ length (now nodes) ⌝ }
+    requires all_right { ⌜ AllRight (now nodes) ⌝ }
+    ensures filled { λ r. ⌜ When r (KnownFrom (now (nodes .entry)) (now (periods .exit)) 0) (NodeLong (now (nodes .entry))) ⌝ }
+{
+    for number in (0..nodes.len()).rev() {
+        let Some(period) = period_of(nodes[number], periods) else {
+            return false;
+        };
+        periods[number] = period;
+    }
+    true
+}
