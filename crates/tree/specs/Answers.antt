@@ -4,7 +4,9 @@ use mathlib.Core.List.{List, [], _∷_}
 use mathlib.Core.Logic.{_⊎_}
 use Prim.Native.Nat.{ℕ, _+_, _*_, _<_, _≤_}
 use lib.ListN.{length, getD, take, drop}
+use Rattle.std.specs.Of.Vec.{vec-items, vec-len}
 use Rattle.std.specs.Options as options
+use Rattle.std.specs.OverHeap.{Vec}
 use Rattle.std.specs.Results.{Cases}
 use Rattle.std.specs.Vec.{made}
 use Rattle.std.specs.declared.option.Option.{Option}
@@ -101,3 +103,9 @@ period-in (node.Inner i) ps = i .degree * lcm-of-all (take (i .degree) (drop (i 
 pub record KnownFrom (nodes : List Node) (ps : List ℕ) (x : ℕ) : Type 0 where
   pub known : drop x ps ≡ periods-from x (drop x nodes)
   pub periods : AllPeriods (drop x ps)
+
+-- the period of each node, or that one is too long, or that there is no memory
+abbrev pub PeriodsAnswer : List Node → Result (Vec ℕ) Refusal → Type 0
+PeriodsAnswer nodes answer =
+    Cases answer (λ ps. (vec-items ps ≡ node-periods nodes) × (vec-len ps ≡ length nodes) × AllPeriods (vec-items ps))
+    (λ e. ((told e ≡ (4, [])) × NodeLong nodes) ⊎ (told e ≡ (0, [])))

@@ -3,7 +3,7 @@ ghost use mathlib.Core.Path.{_≡_};
 ghost use lib.ListN.{length};
 ghost use Rattle.numbers.specs.Computed.{lcm-of-all};
 ghost use Rattle.std.specs.Orderings.{When};
-ghost use Rattle.tree.specs.Answers.{AllPeriods, AllRight, Askable, ChildrenKnown, KnownFrom, NodeLong, PeriodAnswer, PeriodLeast, Right, Within, WrongAnswer, period-in};
+ghost use Rattle.tree.specs.Answers.{AllPeriods, AllRight, Askable, ChildrenKnown, KnownFrom, NodeLong, PeriodAnswer, PeriodLeast, PeriodsAnswer, Right, Within, WrongAnswer, period-in};
 use plans::period::LONGEST;
 use plans::period::joined;
 use plans::refusal::Refusal;
@@ -104,4 +104,42 @@ fn fill_periods(periods: &mut [u32], nodes: &[Node]) -> bool
         periods[number] = period;
     }
     true
+}
+
+// The period of each node of a tree in which all nodes are right.
+fn node_periods(heap: Global, nodes: &[Node]) -> Result<Vec<u32>, Refusal>
+    requires all_right { ⌜ AllRight (now nodes) ⌝ }
+    ensures each_or_refusal { λ r. ⌜ PeriodsAnswer (now (nodes .entry)) r ⌝ }
+{
+    let mut periods = Vec::from_elem(heap, 1, nodes.len())?;
+    if !fill_periods(periods.as_mut_slice(), nodes) {
+        return Err(Refusal::PeriodTooLong);
+    }
+    Ok(periods)
+}
+
+// The period of a tree, as `tree_period` answers it.
+fn judged(heap: Global, nodes: &[Node], channels: u8) -> Result<u32, Refusal>
+    ensures period_or_refusal { λ r. ⌜ PeriodAnswer (now (nodes .entry)) channels r ⌝ }
+{
+    if !askable(nodes.len(), channels) {
+        return Err(Refusal::OutOfRange);
+    }
+    if let Some(number) = first_wrong(nodes) {
+        return Err(Refusal::WrongNode(number));
+    }
+    let periods = node_periods(heap, nodes)?;
+    let Some(period) = all_joined(&periods.as_slice()[0..usize::from(channels)]) else {
+        return Err(Refusal::PeriodTooLong);
+    };
+    Ok(period)
+}
+
+// The period of the tree whose roots are the first nodes, one for each channel: the slots after which all of them have
+// the same turns to hand out again.
+pub fn tree_period(heap: Global, nodes: &[Node], channels: u8) -> Result<u32, Refusal>
+    ensures period_or_refusal { λ r. ⌜ PeriodAnswer (now (nodes .entry)) channels r ⌝ }
+    ensures least_common_multiple { λ r. ⌜ PeriodLeast (now (nodes .entry)) channels r ⌝ }
+{
+    judged(heap, nodes, channels)
 }
