@@ -1,2 +1,4 @@
 pub mod Closures
+pub mod Schedules
 pub mod Planning
+pub mod Loading

@@ -1,11 +1,15 @@
 // From the records of a plan to its timetable.
-ghost use Rattle.load.specs.Planning.{FilmInRange, PagodaAnswered};
+ghost use Rattle.load.specs.Planning.{FilmInRange, PagodaAnswered, Scheduled};
 ghost use Rattle.std.specs.Orderings.{When};
+use crate::schedule::*;
+use planfile::plan::Parts;
 use plans::refusal::Refusal;
 use planner::pagoda::Pagoda;
 use records::kinds::Channel;
 use records::kinds::Film;
+use rows::period::rows_period;
 use std::alloc::Global;
+use tree::period::tree_period;
 
 // Whether the numbers of a film are such as a plan may have.
 fn in_range(film: Film) -> bool
@@ -31,4 +35,25 @@ fn pagoda_of(heap: Global, film: Film, channels: &[Channel]) -> Result<Pagoda, R
         return Err(Refusal::OutOfRange);
     }
     Ok(plan)
+}
+
+// The timetable of a film's plan records, of whichever sort they are.
+pub fn schedule_of(heap: Global, film: Film, parts: Parts) -> Result<Schedule, Refusal>
+    ensures plans_or_refuses { λ r. ⌜ Scheduled film parts r ⌝ }
+{
+    if !in_range(film) {
+        return Err(Refusal::OutOfRange);
+    }
+    let channels = film.channels;
+    match parts {
+        Parts::Pagoda(list) => Ok(Schedule::Pagoda(pagoda_of(heap, film, list.as_slice())?)),
+        Parts::Rows(rows) => {
+            let period = rows_period(rows.as_slice())?;
+            Ok(Schedule::Rows(RowPlan { rows, channels, period }))
+        }
+        Parts::Tree(nodes) => {
+            let period = tree_period(heap, nodes.as_slice(), channels)?;
+            Ok(Schedule::Tree(TreePlan { nodes, channels, period }))
+        }
+    }
 }

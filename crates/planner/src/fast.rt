@@ -1,6 +1,6 @@
 ghost use Prim.Native.Nat.{_≤_};
 
-mod calls;
+pub mod calls;
 
 // A fast plan: its channels carry 1, 2, 4, 8 pages and so on, each its pages one after the other.
 #[derive(Clone, Copy)]

@@ -5,7 +5,7 @@ ghost use Rattle.planner.specs.Pagoda.{Deals, FirstsLaid, SharesLaid};
 use crate::subchannel::Subchannel;
 use records::kinds::Channel;
 
-mod calls;
+pub mod calls;
 mod deal;
 
 // A pagoda plan: each channel lends its slots to its subchannels in turn, and each subchannel carries some pages.
