@@ -2,3 +2,4 @@ pub mod Closures
 pub mod Schedules
 pub mod Planning
 pub mod Loading
+pub mod Saving

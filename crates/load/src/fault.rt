@@ -1,6 +1,7 @@
 // Why a plan file is not loaded.
 ghost use mathlib.Core.Path.{_≡_};
 ghost use Rattle.load.specs.declared.fault.LoadFault.the-variants.{Reading as NotRead, Planning as NotPlanned};
+ghost use Rattle.load.specs.declared.fault.SaveFault.the-variants.{Unfit as NotLoaded};
 use plans::refusal::Refusal;
 use plans::refusal::RefusalDebug;
 use plans::refusal::RefusalEq;
@@ -43,5 +44,29 @@ pub impl From<Refusal> for LoadFault as LoadFaultFromRefusal {
 
     fn from(refusal: Refusal) -> LoadFault {
         LoadFault::Planning(refusal)
+    }
+}
+
+#[derive(Clone, Copy, Debug, PartialEq, Eq)]
+pub enum SaveFault {
+    // Loading would refuse the bytes, with this fault.
+    Unfit(LoadFault),
+    // The output list is too short.
+    NoRoom,
+}
+
+pub impl From<LoadFault> for SaveFault as SaveFaultFromLoadFault {
+    ghost converts = { λ f r. r ≡ NotLoaded f };
+
+    fn from(fault: LoadFault) -> SaveFault {
+        SaveFault::Unfit(fault)
+    }
+}
+
+pub impl From<Fault> for SaveFault as SaveFaultFromFault {
+    ghost converts = { λ f r. r ≡ NotLoaded (NotRead f) };
+
+    fn from(fault: Fault) -> SaveFault {
+        SaveFault::Unfit(LoadFault::Reading(fault))
     }
 }
