@@ -1,4 +1,5 @@
 pub mod Closures
+pub mod Told
 pub mod Schedules
 pub mod Planning
 pub mod Loading

@@ -1,35 +1,20 @@
 -- What loading a plan file answers.
 use mathlib.Core.Path.{_≡_}
-use mathlib.Core.Bool.{cond}
 use mathlib.Core.List.{List, [], _∷_, _++_, map}
 use Prim.Native.Nat.{ℕ, _<_}
-use lib.Dec.{eqb}
 use lib.ListN.{length, take}
 use Rattle.std.specs.Of.Vec.{vec-items}
-use Rattle.records.specs.Faults as faults
-use Rattle.plans.specs.Refusals as refusals
 use Rattle.planfile.specs.declared.plan.Plan.{Plan}
 use Rattle.planfile.specs.Items.{Item, film, part, closure}
 use Rattle.planfile.specs.Format.{encoded, Refused}
 use Rattle.planfile.specs.Answers.{listed, Reads}
 use Rattle.load.specs.declared.fault.ClosureFault.{ClosureFault}
-use Rattle.load.specs.declared.fault.LoadFault.{LoadFault}
-use Rattle.load.specs.declared.fault.LoadFault.the-variants.{Reading, Planning, Closing}
 use Rattle.load.specs.declared.loading.Loaded.{Loaded}
 use Rattle.load.specs.declared.schedule.Schedule.{Schedule}
 use Rattle.load.specs.Closures.{told-closure, CloseTo, FirstIdle}
+use Rattle.load.specs.Told.{told-plan}
 use Rattle.load.specs.Planning.{FilmInRange, Schedules, Refuses}
 use Rattle.load.specs.Schedules.{meant}
-
--- a plan's refusal as the file's: 45, at byte 0, with the lower number; want of memory stays what it is
-abbrev pub told-plan : ℕ × List ℕ → ℕ × List ℕ
-told-plan t = cond (eqb (t .0) 0) (0, []) (45, 0 ∷ t .0 ∷ [])
-
--- the number and the values of each fault
-abbrev pub told-load : LoadFault → ℕ × List ℕ
-told-load (Reading f) = faults.told f
-told-load (Planning r) = told-plan (refusals.told r)
-told-load (Closing b f) = (45, b ∷ told-closure f ∷ [])
 
 -- the records before closure i of a plan
 abbrev pub before : Plan → ℕ → List Item

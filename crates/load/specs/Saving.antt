@@ -10,7 +10,8 @@ use Rattle.planfile.specs.Answers.{file-of}
 use Rattle.load.specs.declared.fault.SaveFault.{SaveFault}
 use Rattle.load.specs.declared.fault.SaveFault.the-variants.{Unfit, NoRoom}
 use Rattle.load.specs.declared.loading.Loaded.{Loaded}
-use Rattle.load.specs.Loading.{told-load, Loads, LoadRefused}
+use Rattle.load.specs.Loading.{Loads, LoadRefused}
+use Rattle.load.specs.Told.{told-load}
 
 -- the number and the values of each fault
 abbrev pub told-save : SaveFault → ℕ × List ℕ

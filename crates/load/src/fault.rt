@@ -1,7 +1,11 @@
 // Why a plan file is not loaded.
+ghost use mathlib.Core.List.{[], _∷_};
 ghost use mathlib.Core.Path.{_≡_};
+ghost use Rattle.load.specs.Closures.{told-closure};
+ghost use Rattle.load.specs.Told.{told-load, lower-list};
 ghost use Rattle.load.specs.declared.fault.LoadFault.the-variants.{Reading as NotRead, Planning as NotPlanned};
 ghost use Rattle.load.specs.declared.fault.SaveFault.the-variants.{Unfit as NotLoaded};
+ghost use Rattle.std.specs.Options.{Cases as BySome};
 use plans::refusal::Refusal;
 use plans::refusal::RefusalDebug;
 use plans::refusal::RefusalEq;
@@ -29,6 +33,36 @@ pub enum LoadFault {
     Planning(Refusal),
     // A closure, whose record begins at this byte, closes no entry of the plan.
     Closing(usize, ClosureFault),
+}
+
+impl ClosureFault {
+    pub fn number(&self) -> u8
+        ensures is_told { λ r. ⌜ r ≡ told-closure (now (self .entry)) ⌝ }
+    {
+        match self {
+            ClosureFault::NoEntry => 19,
+            ClosureFault::ClosedAlready => 20,
+        }
+    }
+}
+
+impl LoadFault {
+    // The number of the fault, its byte, and the lower number where there is one; `None` for want of memory.
+    pub fn numbers(&self) -> Option<(u8, usize, Option<u8>)>
+        ensures is_told { λ r. ⌜ BySome r (told-load (now (self .entry)) ≡ (0, [])) (λ n. told-load (now (self .entry)) ≡ (n .0, n .1 ∷ lower-list (n .2))) ⌝ }
+    {
+        match self {
+            LoadFault::Reading(fault) => match fault.number_and_byte() {
+                Some((number, byte)) => Some((number, byte, None)),
+                None => None,
+            },
+            LoadFault::Planning(refusal) => match refusal.number() {
+                0 => None,
+                lower => Some((45, 0, Some(lower))),
+            },
+            LoadFault::Closing(byte, fault) => Some((45, *byte, Some(fault.number()))),
+        }
+    }
 }
 
 pub impl From<Fault> for LoadFault as LoadFaultFromFault {

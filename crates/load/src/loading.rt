@@ -1,5 +1,6 @@
 // Loading a plan file.
-ghost use Rattle.load.specs.Loading.{Loads, LoadRefused, told-load};
+ghost use Rattle.load.specs.Loading.{Loads, LoadRefused};
+ghost use Rattle.load.specs.Told.{told-load};
 ghost use Rattle.std.specs.Results.{Cases};
 use crate::closing::first_idle;
 use crate::fault::*;

@@ -1,4 +1,5 @@
 ghost use mathlib.Core.Path.{_≡_};
+ghost use Rattle.plans.specs.Refusals.{told};
 ghost use Rattle.plans.specs.declared.refusal.Refusal.the-variants.{OutOfMemory};
 use std::alloc::AllocError;
 
@@ -17,6 +18,22 @@ pub enum Refusal {
     WrongNode(usize),
     // There is no memory for the plan.
     OutOfMemory,
+}
+
+impl Refusal {
+    // The number of the refusal; 0 is want of memory, which is no judgement on a plan.
+    pub fn number(&self) -> u8
+        ensures is_told { λ r. ⌜ r ≡ told (now (self .entry)) .0 ⌝ }
+    {
+        match self {
+            Refusal::OutOfRange => 1,
+            Refusal::WrongSubchannels => 2,
+            Refusal::TooManyPages => 3,
+            Refusal::PeriodTooLong => 4,
+            Refusal::WrongNode(_) => 7,
+            Refusal::OutOfMemory => 0,
+        }
+    }
 }
 
 pub impl From<AllocError> for Refusal as RefusalFromAllocError {

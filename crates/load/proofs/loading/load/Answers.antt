@@ -9,7 +9,8 @@ use Rattle.records.proofs.Exits.{exit}
 use Rattle.plans.specs.Refusals as refusals
 use Rattle.load.specs.declared.fault.LoadFault.the-variants.{Reading, Planning}
 use Rattle.load.specs.Closures.{told-closure, CloseTo, FirstIdle}
-use Rattle.load.specs.Loading.{told-load, Loads, LoadRefused, reading, planning, closing}
+use Rattle.load.specs.Loading.{Loads, LoadRefused, reading, planning, closing}
+use Rattle.load.specs.Told.{told-load}
 use Rattle.load.specs.Schedules.{meant}
 use Rattle.load.proofs.Places.{file-long}
 use Rattle.load.proofs.loading.load.Needs as need

@@ -3,7 +3,8 @@ use lib.ListN.{length}
 use Rattle.records.proofs.Exits.{exit}
 use Rattle.load.specs.declared.fault.LoadFault.the-variants.{Reading}
 use Rattle.load.specs.declared.fault.SaveFault.the-variants.{Unfit}
-use Rattle.load.specs.Loading.{told-load, Loads, LoadRefused}
+use Rattle.load.specs.Loading.{Loads, LoadRefused}
+use Rattle.load.specs.Told.{told-load}
 use Rattle.load.specs.Saving.{Unsaved, unfit, Saves, told-save}
 use Rattle.load.proofs.Puts.{not-made, saves-of, no-room-of}
 use Rattle.load.proofs.saving.save.Needs as need
