@@ -1,3 +1,4 @@
 pub mod Answers
 pub mod Periods
+pub mod Plans
 pub mod Turns
