@@ -1,12 +1,10 @@
 -- After its period a node carries the same again.
-use denote.Ref.{now}
 use mathlib.Core.Path.{_≡_, refl, sym, _∙_, ap, subst}
 use mathlib.Core.List.{List, [], _∷_}
-use mathlib.Core.Logic.{_⊎_, inl, inr}
+use mathlib.Core.Logic.{inl, inr}
 use Prim.Native.Nat.{ℕ, zero, suc, _+_, _-_, _*_, _/_, _%_, _^_, _<_, _≤_}
-use native.Mathlib.Nat.{add-mul-div-right, add-mul-mod-self-right, mod-add-div', mod-lt, mul-assoc, mul-comm, mul-left-comm}
+use native.Mathlib.Nat.{add-mul-div-right, add-mul-mod-self-right, mod-add-div', mod-lt, mul-assoc, mul-comm}
 use native.Mathlib.Omega.{arith}
-use lib.Dec.{eqb, ltb}
 use lib.ListN.{length, getD, take, drop}
 use borrow.Author.Tests.{ne-eqb, le-ltb}
 use Rattle.std.proofs.shelf.Lists.{getD-take, getD-drop, length-take-le, length-drop}
@@ -21,7 +19,8 @@ use Rattle.numbers.specs.Divisors.{Divides, MultipleOfAll}
 use Rattle.numbers.proofs.All.{lcm-of-all-is}
 use Rattle.numbers.proofs.Dividing.{divides-times}
 use Rattle.plans.specs.declared.refusal.Refusal.{Refusal}
-use Rattle.tree.specs.Answers.{AllRight, Right, Planned, period-in}
+use Rattle.tree.specs.Answers.{AllRight, Right, Planned}
+use Rattle.tree.specs.Finding.{period-in}
 use Rattle.tree.specs.Periods.{node-periods}
 use Rattle.tree.specs.Plans.{TreeOf, PlanAnswer, PlanComesRound, ComesRound}
 use Rattle.tree.specs.Turns.{node-at, handed, carried, tree}
