@@ -7,13 +7,13 @@ use native.Mathlib.Numerals.{add-one}
 use native.Mathlib.Omega.{arith}
 use lib.ListN.{length, getD, set, take, drop}
 use Rattle.std.proofs.shelf.Elements.{all-take, all-drop}
-use Rattle.std.proofs.shelf.Lists.{drop-all, drop-drop, drop-more, drop-set, getD-drop, take-all}
-use Rattle.records.specs.declared.kinds.Inner.{Inner}
+use Rattle.std.proofs.shelf.Lists.{drop-all, drop-drop, drop-more, drop-set, getD-drop}
 use Rattle.records.specs.declared.kinds.Node.{Node}
 use Rattle.records.specs.declared.kinds.Node.the-variants as node
 use Rattle.numbers.specs.Computed.{lcm-of-all}
 use Rattle.plans.specs.Periods.{longest-period}
-use Rattle.tree.specs.Answers.{AllPeriods, Right, ChildrenKnown, KnownFrom, period-in}
+use Rattle.tree.specs.Answers.{Right}
+use Rattle.tree.specs.Finding.{AllPeriods, ChildrenKnown, KnownFrom, period-in}
 use Rattle.tree.specs.Periods.{period-of, periods-from, node-periods}
 use Rattle.tree.specs.Turns.{node-at}
 
@@ -52,11 +52,11 @@ period-in-is count x (node.Inner i) ps right =
 children-known : (x : ℕ) (n : Node) (ps : List ℕ) → Right (length ps) x n → AllPeriods (drop (x + 1) ps) → ChildrenKnown n ps
 children-known x (node.Leaf l) ps right all = tt
 children-known x (node.Inner i) ps right all = (
-      right .0,
-      right .2,
-      all-take _ (i .degree) (drop (i .«first_child») ps)
+  right .0,
+  right .2,
+  all-take _ (i .degree) (drop (i .«first_child») ps)
       (subst AllPeriods (later ps (i .«first_child») x (right .1)) (all-drop _ (i .«first_child» - suc x) (drop (x + 1) ps) all)),
-    )
+)
 
 -- past the last node
 pub known-none : (nodes : List Node) (ps : List ℕ) (x : ℕ) → length nodes ≤ x → length ps ≤ x → KnownFrom nodes ps x

@@ -1,14 +1,13 @@
 -- What is computed as the period of a tree is what its name says.
-use mathlib.Core.Path.{_≡_, refl, sym, _∙_, ap, subst}
-use mathlib.Core.List.{List, [], _∷_}
-use Prim.Native.Nat.{ℕ, suc, _+_, _-_, _*_, _<_, _≤_}
+use mathlib.Core.Path.{_≡_, sym, _∙_, ap, subst}
+use mathlib.Core.List.{List}
+use Prim.Native.Nat.{ℕ, _+_, _-_, _<_}
 use native.Mathlib.Omega.{arith}
 use lib.ListN.{length, getD, take, drop}
 use Rattle.std.proofs.shelf.Elements.{all-getD, all-take}
 use Rattle.std.specs.declared.option.Option.the-variants.{Some}
 use Rattle.std.specs.declared.result.Result.{Result}
 use Rattle.std.specs.declared.result.Result.the-variants.{Ok, Err}
-use Rattle.records.specs.declared.kinds.Inner.{Inner}
 use Rattle.records.specs.declared.kinds.Node.{Node}
 use Rattle.records.specs.declared.kinds.Node.the-variants as node
 use Rattle.numbers.specs.Computed.{lcm-of-all}
@@ -16,7 +15,8 @@ use Rattle.numbers.specs.Divisors.{LeastCommonMultipleOfAll}
 use Rattle.numbers.proofs.All.{lcm-of-all-is}
 use Rattle.plans.specs.Periods.{longest-period}
 use Rattle.plans.specs.declared.refusal.Refusal.{Refusal}
-use Rattle.tree.specs.Answers.{AllPeriods, AllRight, Askable, Planned, PeriodAnswer, PeriodLeast, Within, period-in}
+use Rattle.tree.specs.Answers.{AllRight, Askable, Planned, PeriodAnswer, PeriodLeast}
+use Rattle.tree.specs.Finding.{AllPeriods, Within, period-in}
 use Rattle.tree.specs.Periods.{PeriodsOf, LeastPeriod, period-of, periods-from, node-periods, tree-period}
 use Rattle.tree.specs.Turns.{node-at}
 use Rattle.tree.proofs.Known.{periods-later, length-periods, period-at, period-in-is}
@@ -64,10 +64,10 @@ module _ (nodes : List Node) (ps qs : List ℕ) (k c : ℕ) (known : ps ≡ node
 
 least-period : (nodes : List Node) (c p : ℕ) → Planned nodes c p → LeastPeriod nodes c p
 least-period nodes c p h = (
-      node-periods nodes,
-      periods-of nodes (h .right),
-      subst (λ (l : ℕ). LeastCommonMultipleOfAll (take c (node-periods nodes)) l) (sym (h .period)) (lcm-of-all-is (take c (node-periods nodes))),
-    )
+  node-periods nodes,
+  periods-of nodes (h .right),
+  subst (λ (l : ℕ). LeastCommonMultipleOfAll (take c (node-periods nodes)) l) (sym (h .period)) (lcm-of-all-is (take c (node-periods nodes))),
+)
 
 pub answer-least : (nodes : List Node) (c : ℕ) (answer : Result ℕ Refusal) → PeriodAnswer nodes c answer → PeriodLeast nodes c answer
 answer-least nodes c (Ok p) h = least-period nodes c p h

@@ -1,7 +1,7 @@
 -- The period that some cycles have together, one after the other.
-use mathlib.Core.Path.{_≡_, sym, subst}
+use mathlib.Core.Path.{sym, subst}
 use mathlib.Core.List.{List, [], _∷_, _++_}
-use Prim.Native.Nat.{ℕ, _+_, _*_, _<_, _≤_}
+use Prim.Native.Nat.{ℕ, _+_, _<_, _≤_}
 use native.Mathlib.Omega.{arith}
 use lib.ListN.{length, getD, take, drop}
 use Rattle.std.proofs.shelf.Elements.{all-getD}
@@ -12,7 +12,7 @@ use Rattle.numbers.specs.Computed.{lcm-of-all}
 use Rattle.numbers.specs.Divisors.{LeastCommonMultipleOfAll}
 use Rattle.numbers.proofs.All.{AllPositive, lcm-all-unique, lcm-all-grows, lcm-all-positive, lcm-of-all-is}
 use Rattle.plans.specs.Periods.{PeriodOf, longest-period}
-use Rattle.tree.specs.Answers.{AllPeriods, Within}
+use Rattle.tree.specs.Finding.{AllPeriods, Within}
 
 pub all-positive : (xs : List ℕ) → AllPeriods xs → AllPositive xs
 all-positive [] h = tt

@@ -1,3 +1,5 @@
 pub mod Answers
+pub mod Finding
 pub mod Periods
+pub mod Plans
 pub mod Turns

@@ -2,7 +2,7 @@
 -- and the tree has the least common multiple of those of its roots.
 use mathlib.Core.Path.{_≡_}
 use mathlib.Core.List.{List, [], _∷_}
-use Prim.Native.Nat.{ℕ, zero, suc, _+_, _-_, _*_, _<_, _≤_}
+use Prim.Native.Nat.{ℕ, suc, _+_, _-_, _*_, _<_}
 use lib.ListN.{length, getD, take, drop}
 use Rattle.records.specs.declared.kinds.Inner.{Inner}
 use Rattle.records.specs.declared.kinds.Leaf.{Leaf}
@@ -38,7 +38,7 @@ pub record PeriodsOf (nodes : List Node) (ps : List ℕ) : Type 0 where
   pub one-each : length ps ≡ length nodes
   pub of-leaf : (x : ℕ) (l : Leaf) → x < length nodes → node-at nodes x ≡ node.Leaf l → getD ps x 0 ≡ 1
   pub of-inner : (x : ℕ) (i : Inner) → x < length nodes → node-at nodes x ≡ node.Inner i →
-    (l : ℕ) × LeastCommonMultipleOfAll (take (i .degree) (drop (i .«first_child») ps)) l × (getD ps x 0 ≡ i .degree * l)
+      (l : ℕ) × LeastCommonMultipleOfAll (take (i .degree) (drop (i .«first_child») ps)) l × (getD ps x 0 ≡ i .degree * l)
 
 -- p is the period of the tree whose roots are the first c nodes
 abbrev pub LeastPeriod : List Node → ℕ → ℕ → Type 0

@@ -1,9 +1,9 @@
-ghost use Prim.Native.Nat.{_<_};
 ghost use mathlib.Core.Path.{_≡_};
 ghost use lib.ListN.{length};
 ghost use Rattle.numbers.specs.Computed.{lcm-of-all};
 ghost use Rattle.std.specs.Orderings.{When};
-ghost use Rattle.tree.specs.Answers.{AllPeriods, AllRight, Askable, ChildrenKnown, KnownFrom, NodeLong, PeriodAnswer, PeriodLeast, PeriodsAnswer, Right, Within, WrongAnswer, period-in};
+ghost use Rattle.tree.specs.Answers.{AllRight, Askable, NodeLong, PeriodAnswer, PeriodLeast, Right};
+ghost use Rattle.tree.specs.Finding.{AllPeriods, ChildrenKnown, KnownFrom, PeriodsAnswer, Within, WrongAnswer, period-in};
 use plans::period::LONGEST;
 use plans::period::joined;
 use plans::refusal::Refusal;

@@ -1,9 +1,13 @@
 ghost use Prim.Native.Nat.{_<_};
 ghost use denote.Ref.{now};
 ghost use mathlib.Core.Path.{_≡_};
+ghost use Rattle.tree.specs.Plans.{PlanAnswer, PlanComesRound};
 ghost use Rattle.tree.specs.Turns.{carried, handed, tree, tree-lawful};
+use crate::period::tree_period;
+use plans::refusal::Refusal;
 use records::kinds::Inner;
 use records::kinds::Node;
+use std::alloc::Global;
 use timetable::interface::Timetable;
 
 // A timetable by lent nodes: each of the channels begins at a node of its own, the first at node 0.
@@ -40,6 +44,28 @@ fn child_step(nodes: &[Node], parent: Inner, turn: u32) -> u16
     let degree = u32::from(parent.degree);
     let child = usize::from(parent.first_child) + (turn % degree) as usize;
     node_step(nodes, child, turn / degree)
+}
+
+// The tree whose roots are the first nodes, as `Tree::plan` answers it.
+fn planned<'a>(heap: Global, nodes: &'a [Node], channels: u8) -> Result<Tree<'a>, Refusal>
+    ensures tree_or_refusal { λ r. ⌜ PlanAnswer (now (nodes .entry)) channels r ⌝ }
+{
+    let period = tree_period(heap, nodes, channels)?;
+    Ok(Tree {
+        nodes,
+        channels,
+        period,
+    })
+}
+
+impl<'a> Tree<'a> {
+    // The tree whose roots are the first nodes, one for each channel, with its period.
+    pub fn plan(heap: Global, nodes: &'a [Node], channels: u8) -> Result<Tree<'a>, Refusal>
+        ensures tree_or_refusal { λ r. ⌜ PlanAnswer (now (nodes .entry)) channels r ⌝ }
+        ensures comes_round { λ r. ⌜ PlanComesRound r ⌝ }
+    {
+        planned(heap, nodes, channels)
+    }
 }
 
 pub impl Timetable for Tree<'_> as TreeTimetable {

@@ -1,4 +1,4 @@
-use Rattle.tree.specs.Answers.{KnownFrom}
+use Rattle.tree.specs.Finding.{KnownFrom}
 use Rattle.tree.proofs.period.fill_periods.Given as given
 
 abbrev pub Inv-loop-number : given.InvT-loop-number

@@ -1,7 +1,7 @@
 use mathlib.Core.Path.{sym, _∙_, subst}
 use native.Mathlib.Omega.{arith}
 use Rattle.std.proofs.shelf.Lists.{refilled-is}
-use Rattle.tree.specs.Answers.{AllPeriods}
+use Rattle.tree.specs.Finding.{AllPeriods}
 use Rattle.tree.proofs.period.node_periods.Needs as need
 
 pub returns : need.returns

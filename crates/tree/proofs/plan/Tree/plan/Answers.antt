@@ -1,0 +1,9 @@
+use Rattle.tree.proofs.Rounds.{answer-round}
+use Rattle.tree.proofs.plan.Tree.plan.Needs as need
+
+pub returns : need.returns
+returns c =
+    record {
+      tree-or-refusal = c .planned .ensures .tree-or-refusal;
+      comes-round = answer-round _ _ _ (c .planned .ensures .tree-or-refusal);
+    }
