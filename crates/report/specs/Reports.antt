@@ -1,44 +1,42 @@
 -- The lines on a file.
 use mathlib.Core.Path.{_≡_}
-use mathlib.Core.List.{List, [], _∷_}
+use mathlib.Core.List.{List, [], _∷_, _++_}
 use Prim.Native.Nat.{ℕ}
-use Rattle.records.specs.Faults.{told}
-use Rattle.records.specs.declared.kinds.Film as film
-use Rattle.planfile.specs.declared.plan.Plan.{Plan}
-use Rattle.planfile.specs.Format.{Refused}
-use Rattle.planfile.specs.Answers.{Reads}
+use Rattle.std.specs.declared.option.Option.{Option}
+use Rattle.load.specs.declared.loading.Loaded.{Loaded}
+use Rattle.load.specs.Loading.{Loads, LoadRefused}
+use Rattle.load.specs.Schedules.{meant}
+use Rattle.load.specs.Told.{told-load, lower-list}
 use Rattle.report.specs.declared.line.Line.{Line}
-use Rattle.report.specs.declared.line.Line.the-variants.{Film, Wait, Fault}
+use Rattle.report.specs.declared.line.Line.the-variants.{Film, Period, Wait, Fault}
 use Rattle.report.specs.declared.fault.ReportFault.{ReportFault}
-use Rattle.report.specs.declared.fault.ReportFault.the-variants.{Reading, Memory}
+use Rattle.report.specs.declared.fault.ReportFault.the-variants.{Loading, Memory}
 
--- the lines on a plan
-abbrev pub lines : film.Film → List Line
-lines f = Film (f .delay) (f .pages) (f .channels) ∷ Wait (f .delay) ∷ []
+-- the lines on a plan that is loaded
+abbrev pub lines : Loaded → List Line
+lines l =
+    Film (l .film .delay) (l .film .pages) (l .film .channels) ∷ Period (meant (l .schedule) .period) ∷ Wait (l .film .delay) ∷ []
 
--- the file holds a plan, and these are its lines
+-- the file holds a plan that can be sent, and these are its lines
 abbrev pub Told : List ℕ → List Line → Type 0
-Told file ls = (p : Plan) × Reads file p × (ls ≡ lines (p .film))
-
--- the file is refused, or there is no memory
-abbrev pub Untold : List ℕ → ReportFault → Type 0
-Untold file (Reading f) = Refused file (told f .0) (told f .1)
-Untold file Memory = Unit {0}
+Told file ls = (l : Loaded) × Loads file l × (ls ≡ lines l)
 
 -- the number and the values of a fault
 abbrev pub told-report : ReportFault → ℕ × List ℕ
-told-report (Reading f) = told f
+told-report (Loading f) = told-load f
 told-report Memory = (0, [])
+
+-- the file is refused, or there is no memory
+abbrev pub Untold : List ℕ → ReportFault → Type 0
+Untold file (Loading f) = LoadRefused file (told-load f .0) (told-load f .1)
+Untold file Memory = Unit {0}
 
 -- the one line on a fault
 abbrev pub FaultLine : ReportFault → List Line → Type 0
-FaultLine f ls = (k : ℕ) × (b : ℕ) × (told-report f ≡ (k, b ∷ [])) × (ls ≡ Fault k b ∷ [])
+FaultLine f ls =
+    (k : ℕ) × (b : ℕ) × (lower : Option ℕ) × (told-report f ≡ (k, b ∷ lower-list lower)) × (ls ≡ Fault k b lower ∷ [])
 
 -- the lines on a file: of its plan, or the one line of its fault
 pub data Reported (file : List ℕ) : List Line → Type 0 where
-  plan : (p : Plan) → Reads file p → Reported file (lines (p .film))
-  fault : (k b : ℕ) → Refused file k (b ∷ []) → Reported file (Fault k b ∷ [])
-
--- no other lines are right
-abbrev pub OnlyReport : List ℕ → List Line → Type 0
-OnlyReport file ls = (more : List Line) → Reported file more → more ≡ ls
+  plan : (l : Loaded) → Loads file l → Reported file (lines l)
+  fault : (k b : ℕ) (lower : Option ℕ) → LoadRefused file k (b ∷ lower-list lower) → Reported file (Fault k b lower ∷ [])

@@ -1,24 +1,24 @@
 // Why there are no lines on a plan.
 ghost use mathlib.Core.Path.{_≡_};
-ghost use Rattle.report.specs.declared.fault.ReportFault.the-variants.{Reading as NotRead, Memory as OutOfMemory};
-use records::fault::Fault;
-use records::fault::FaultDebug;
+ghost use Rattle.report.specs.declared.fault.ReportFault.the-variants.{Loading as NotLoaded, Memory as OutOfMemory};
+use load::fault::LoadFault;
+use load::fault::LoadFaultDebug;
 use std::alloc::AllocError;
 use std::alloc::Refused;
 
 #[derive(Clone, Copy, Debug)]
 pub enum ReportFault {
-    // The file is refused with this fault.
-    Reading(Fault),
+    // The file is not loaded, for this fault.
+    Loading(LoadFault),
     // There was no memory for the lines.
     Memory,
 }
 
-pub impl From<Fault> for ReportFault as ReportFaultFromFault {
-    ghost converts = { λ f r. r ≡ NotRead f };
+pub impl From<LoadFault> for ReportFault as ReportFaultFromLoadFault {
+    ghost converts = { λ f r. r ≡ NotLoaded f };
 
-    fn from(fault: Fault) -> ReportFault {
-        ReportFault::Reading(fault)
+    fn from(fault: LoadFault) -> ReportFault {
+        ReportFault::Loading(fault)
     }
 }
 

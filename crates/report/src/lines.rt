@@ -1,22 +1,26 @@
 // The lines on a plan file.
-ghost use Rattle.report.specs.Reports.{Told, Untold, FaultLine, Reported, OnlyReport};
+ghost use Rattle.report.specs.Reports.{Told, Untold, FaultLine, Reported};
 ghost use Rattle.std.specs.Of.Vec.{vec-items};
 ghost use Rattle.std.specs.Results.{Cases};
 ghost use Rattle.std.specs.Vec.{made};
 use crate::fault::*;
 use crate::line::*;
-use planfile::reader::read_plan;
+use load::loading::load;
+use load::schedule::ScheduleTimetable;
 use std::alloc::AllocError;
 use std::alloc::Global;
+use timetable::interface::Timetable;
 
 // The lines on a file that holds a plan.
 fn plan_lines(heap: Global, bytes: &[u8]) -> Result<Vec<Line>, ReportFault>
     ensures tells_the_plan { λ r. ⌜ Cases r (λ v. Told (now (bytes .entry)) (vec-items v)) (Untold (now (bytes .entry))) ⌝ }
 {
-    let film = read_plan(heap, bytes)?.film;
+    let loaded = load(heap, bytes)?;
+    let film = loaded.film;
     Ok(
         vec![in heap;
             Line::Film(film.delay, film.pages, film.channels),
+            Line::Period(loaded.schedule.period()),
             Line::Wait(film.delay),
         ]?,
     )
@@ -28,9 +32,9 @@ fn fault_line(heap: Global, fault: ReportFault) -> Result<Vec<Line>, AllocError>
 {
     match fault {
         ReportFault::Memory => Err(AllocError),
-        ReportFault::Reading(reading) => match reading.number_and_byte() {
+        ReportFault::Loading(loading) => match loading.numbers() {
             None => Err(AllocError),
-            Some((number, byte)) => Ok(vec![in heap; Line::Fault(number, byte)]?),
+            Some((number, byte, lower)) => Ok(vec![in heap; Line::Fault(number, byte, lower)]?),
         },
     }
 }
@@ -47,7 +51,6 @@ fn all_lines(heap: Global, bytes: &[u8]) -> Result<Vec<Line>, AllocError>
 // The lines on a file: of the plan that it holds, or of its one fault.
 pub fn report(heap: Global, bytes: &[u8]) -> Result<Vec<Line>, AllocError>
     ensures reports { λ r. ⌜ made r (λ v. Reported (now (bytes .entry)) (vec-items v)) ⌝ }
-    ensures no_other_report { λ r. ⌜ made r (λ v. OnlyReport (now (bytes .entry)) (vec-items v)) ⌝ }
 {
     all_lines(heap, bytes)
 }
