@@ -1,8 +1,9 @@
 #!/usr/bin/env python3
-"""A second, naive reading of docs/FORMAT.md, to compare the bench with. It shares nothing with the crates.
+"""A second, naive reading of docs/FORMAT.md and docs/RULES.md, to compare the bench with. It shares nothing with the crates.
 
 reference.py FILE..     prints what the bench should print of each plan file
 """
+from math import lcm
 import sys
 
 BODY = {0: 0, 1: 5, 2: 1, 3: 11, 4: 2, 5: 4, 6: 5}
@@ -67,12 +68,82 @@ def read(data):
             return film, sort, parts, closures
 
 
+def pagoda_period(delay, pages, counts):
+    """Deals the pages one subchannel after the other; the film has as many as are dealt."""
+    first, cycles = 1, []
+    for count in counts:
+        if not 1 <= count <= 32 or count > delay + first - 1:
+            raise Fault(45, 0, 2)
+        for _ in range(count):
+            share = (delay + first - 1) // count
+            cycles.append(count * share)
+            first += share
+        if first - 1 > 1024:
+            raise Fault(45, 0, 3)
+    if lcm(*cycles) > 65536:
+        raise Fault(45, 0, 4)
+    if first - 1 != pages:
+        raise Fault(45, 0, 1)
+    return lcm(*cycles)
+
+
+def rows_period(rows):
+    periods = [number(body[7:11]) for _, body in rows]
+    if 0 in periods or lcm(*periods) > 65536:
+        raise Fault(45, 0, 4)
+    return lcm(*periods)
+
+
+def tree_period(nodes, channels):
+    """Each node's period from the last node to the first, since children come after their parents."""
+    if channels > len(nodes):
+        raise Fault(45, 0, 1)
+    inner = [(number(body[0:2]), number(body[2:4])) if kind == 5 else None for kind, body in nodes]
+    for x, node in enumerate(inner):
+        if node and (node[1] == 0 or node[0] <= x or node[0] + node[1] > len(nodes)):
+            raise Fault(45, 0, 7)
+    periods = [1] * len(nodes)
+    for x in reversed(range(len(nodes))):
+        if inner[x]:
+            a, d = inner[x]
+            periods[x] = d * lcm(*periods[a:a + d])
+    whole = lcm(*periods[:channels])
+    if max(periods + [whole]) > 65536:
+        raise Fault(45, 0, 4)
+    return whole
+
+
+def plan_period(film, sort, parts):
+    delay, pages, channels = film
+    if not (1 <= delay <= 1024 and 1 <= pages <= 1024 and 1 <= channels <= 8):
+        raise Fault(45, 0, 1)
+    if sort == 'pagoda':
+        if channels != len(parts):
+            raise Fault(45, 0, 1)
+        return pagoda_period(delay, pages, [body[0] for _, body in parts])
+    if sort == 'rows':
+        return rows_period(parts)
+    return tree_period(parts, channels)
+
+
+def judge_closures(closures, channels, period):
+    seen = set()
+    for at, channel, slot in closures:
+        if not 1 <= channel <= channels or slot >= period:
+            raise Fault(45, at, 19)
+        if (channel, slot) in seen:
+            raise Fault(45, at, 20)
+        seen.add((channel, slot))
+
+
 def report(data):
     try:
-        film, _, _, _ = read(data)
+        film, sort, parts, closures = read(data)
+        period = plan_period(film, sort, parts)
+        judge_closures(closures, film[2], period)
     except Fault as fault:
         return ['FAULT ' + ' '.join(map(str, fault.numbers))]
-    return ['FILM %d %d %d' % film, 'WAIT %d' % film[0]]
+    return ['FILM %d %d %d' % film, 'PERIOD %d' % period, 'WAIT %d' % film[0]]
 
 
 if __name__ == '__main__':

@@ -86,9 +86,84 @@ def cases():
         yield f'random-{count}', text
 
 
+def film(delay, pages, channels):
+    return '01%04x%04x%02x' % (delay, pages, channels)
+
+
+def row(page, channel, start, period):
+    return '03%04x%02x%08x%08x' % (page, channel, start, period)
+
+
+def inner(first, degree):
+    return '05%04x%04x' % (first, degree)
+
+
+def closure(channel, slot):
+    return '06%02x%08x' % (channel, slot)
+
+
+def dealt(delay, counts):
+    """The pages that a pagoda plan deals, to meet the film's number or to miss it by one."""
+    first = 1
+    for count in counts:
+        for _ in range(count):
+            first += (delay + first - 1) // count if count else 0
+    return first - 1
+
+
+def planned():
+    # every edge of the film's numbers
+    for delay in (0, 1, 1024, 1025, 65535):
+        yield f'delay-{delay}', f'{film(delay, 1, 1)} {ROW} {END}'
+    for pages in (0, 1, 1024, 1025, 65535):
+        yield f'pages-{pages}', f'{film(1, pages, 1)} {ROW} {END}'
+    for channels in (0, 1, 8, 9, 255):
+        yield f'channels-{channels}-of-rows', f'{film(1, 1, channels)} {ROW} {END}'
+        yield f'channels-{channels}-of-8-leaves', f'{film(1, 1, channels)} {LEAF}x8 {END}'
+        yield f'channels-{channels}-of-7-leaves', f'{film(1, 1, channels)} {LEAF}x7 {END}'
+    # pagoda plans, with the pages met and missed by one
+    loops = [(9, [3]), (4, [2]), (4, [2, 3]), (3, [3]), (3, [4]), (1024, [1]), (1024, [1, 1]), (100, [10]), (1, [1] * 8), (32, [32]), (32, [33]), (33, [33]), (1, [0]), (1024, [32]), (31, [32]), (1, [1, 2]), (1, [1, 1, 2]), (1, [1, 2, 3, 4, 5, 6, 7, 8]), (2, [1, 33]), (1, [1, 2, 4, 8]), (1023, [1]), (512, [1, 1]), (341, [1, 1, 1])]
+    for delay, counts in loops:
+        text = ''.join('02%02x' % count for count in counts)
+        for pages in {max(1, min(1024, dealt(delay, counts) + more)) for more in (-1, 0, 1)}:
+            yield f'pagoda-{delay}-{"-".join(map(str, counts))}-of-{pages}', f'{film(delay, pages, len(counts))} {text} {END}'
+    for channels in (1, 2, 3):
+        yield f'pagoda-two-channels-of-{channels}', f'{film(4, 17, channels)} 02020203 {END}'
+    # rows: periods that meet the longest, pass it, or pass what a machine's number holds
+    for name, periods in [('none', [0]), ('one', [1]), ('longest', [65536]), ('longer', [65537]), ('halves', [256, 65536]), ('primes', [65537, 65536]), ('most', [4294967295]), ('wraps-32', [65536, 65537, 4294901761]), ('wraps-64', [4294967295, 4294967294, 4294967293]), ('zero-last', [65537, 0]), ('zero-first', [0, 1]), ('common', [6, 4, 10, 15]), ('long-by-three', [128, 81, 25]), ('short-by-two', [2048, 32])]:
+        yield f'rows-{name}', f'{film(1, 1, 1)} {"".join(row(1, 1, 0, q) for q in periods)} {END}'
+    yield 'rows-absurd', f'{film(1, 1, 1)} {row(65535, 255, 4294967295, 7)} {row(0, 0, 9, 3)} {END}'
+    # trees
+    yield 'tree-worked', f'{film(2, 3, 1)} {inner(1, 2)} {LEAF} {inner(3, 2)} {LEAF}x2 {END}'
+    yield 'tree-two-roots', f'{film(2, 3, 2)} {inner(2, 2)} {inner(4, 3)} {LEAF}x5 {END}'
+    yield 'tree-shared', f'{film(2, 3, 2)} {inner(2, 2)} {inner(2, 3)} {LEAF}x3 {END}'
+    yield 'tree-no-degree', f'{film(2, 3, 1)} {LEAF} {inner(2, 0)} {LEAF} {END}'
+    yield 'tree-own-child', f'{film(2, 3, 1)} {LEAF} {inner(1, 1)} {LEAF} {END}'
+    yield 'tree-child-before', f'{film(2, 3, 1)} {LEAF} {inner(0, 1)} {LEAF} {END}'
+    yield 'tree-beyond', f'{film(2, 3, 1)} {inner(1, 3)} {LEAF}x2 {END}'
+    yield 'tree-to-the-end', f'{film(2, 3, 1)} {inner(1, 2)} {LEAF}x2 {END}'
+    yield 'tree-far-beyond', f'{film(2, 3, 1)} {inner(65535, 65535)} {LEAF}x2 {END}'
+    yield 'tree-unreached-wrong', f'{film(2, 3, 1)} {LEAF} {inner(0, 9)} {END}'
+    yield 'tree-unreached-long', f'{film(2, 3, 1)} {LEAF} {inner(2, 256)}{inner(258, 257)} {LEAF}x513 {END}'
+    yield 'tree-chain', f'{film(2, 3, 1)} {"".join(inner(x + 1, 1) for x in range(2047))} {LEAF} {END}'
+    yield 'tree-doubling-16', f'{film(2, 3, 1)} {"".join(inner(x + 1, 2) for x in range(16))} {LEAF}x2 {END}'
+    yield 'tree-doubling-17', f'{film(2, 3, 1)} {"".join(inner(x + 1, 2) for x in range(17))} {LEAF}x2 {END}'
+    yield 'tree-roots-together-long', f'{film(2, 3, 3)} {inner(3, 251)}{inner(3, 241)}{inner(3, 239)} {LEAF}x251 {END}'
+    yield 'tree-wrong-and-out-of-range', f'{film(0, 3, 1)} {inner(0, 0)} {END}'
+    # closures: each edge of the entry, and the same entry again
+    for channel, slot in [(0, 0), (1, 0), (1, 11), (1, 12), (2, 0), (255, 4294967295), (1, 4294967295)]:
+        yield f'closed-{channel}-{slot}', f'{FILM} {CHANNEL} {closure(channel, slot)} {END}'
+    yield 'closed-twice', f'{FILM} {CHANNEL} {closure(1, 3)}{closure(1, 4)}{closure(1, 3)} {END}'
+    yield 'closed-twice-and-out', f'{FILM} {CHANNEL} {closure(1, 3)}{closure(1, 3)}{closure(9, 3)} {END}'
+    yield 'closed-out-and-twice', f'{FILM} {CHANNEL} {closure(1, 3)}{closure(9, 3)}{closure(1, 3)} {END}'
+    yield 'closed-row', f'{film(1, 1, 2)} {row(1, 1, 0, 5)} {closure(2, 4)}{closure(2, 5)} {END}'
+    yield 'closed-node', f'{film(2, 3, 1)} {inner(1, 3)} {LEAF}x3 {closure(1, 2)}{closure(1, 3)} {END}'
+    yield 'closed-all', f'{film(1, 1, 1)} {row(1, 1, 0, 64)} {"".join(closure(1, t) for t in range(64))} {END}'
+
+
 def texts():
     given, wanted = [], []
-    for name, text in cases():
+    for name, text in list(cases()) + list(planned()):
         given.append(f'{name} {" ".join(text.split())}'.rstrip())
         wanted.append('\n'.join([name] + ['  ' + line for line in report(octets(text))]))
     return '\n'.join(given) + '\n', '\n'.join(wanted) + '\n'

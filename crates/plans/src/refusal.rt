@@ -40,6 +40,6 @@ pub impl From<AllocError> for Refusal as RefusalFromAllocError {
     ghost converts = { λ _ r. r ≡ OutOfMemory };
 
     fn from(_: AllocError) -> Refusal {
-        Refusal::OutOfMemory
+        Self::OutOfMemory
     }
 }
