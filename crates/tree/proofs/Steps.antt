@@ -12,7 +12,7 @@ use Rattle.std.proofs.shelf.Tests.{cond-both, leb-false, le-leb, lt-leb}
 use Rattle.records.specs.declared.kinds.Inner.{Inner}
 use Rattle.records.specs.declared.kinds.Node.{Node}
 use Rattle.records.specs.declared.kinds.Node.the-variants as node
-use Rattle.tree.specs.Turns.{node-at, handed, carried-by, carried-in, carried}
+use Rattle.tree.specs.Turns.{HandsTurnsOn, node-at, handed, carried-by, carried-in, carried}
 
 same-cond : (b : Bool) (x y z : ℕ) → (b ≡ false → y ≡ z) → cond b x y ≡ cond b x z
 same-cond true x y z h = refl
@@ -57,3 +57,12 @@ module _ (nodes : List Node) (x v : ℕ) (i : Inner) (is : node-at nodes x ≡ n
   pub hands-on : 0 < i .degree → x < i .«first_child» → carried nodes x v ≡ handed (carried nodes) i v
   hands-on some after =
       carried-at nodes x v _ is ∙ rw (ne-eqb (i .degree) 0 (λ e. omega arith), lt-leb (i .«first_child») x after)
+
+pub hands-turns-on : (nodes : List Node) → HandsTurnsOn nodes (carried nodes)
+hands-turns-on nodes = record {
+  absent-silent = λ x v h. carried-past nodes (length nodes) x v h;
+  leaf-answers = λ x v l is. carried-at nodes x v (node.Leaf l) is;
+  childless-silent = λ x v i is none. no-children nodes x v i is none;
+  backward-silent = λ x v i is low. not-before nodes x v i is low;
+  child-answers = λ x v i is some after. hands-on nodes x v i is some after;
+}

@@ -1,12 +1,14 @@
 -- What a tree of nodes carries. The nodes are numbered from 0, and each has turns, counted from 0. A leaf carries its
 -- page in all of them. An inner node of degree d hands its turns round to d nodes, its children: to the first the turns
 -- 0, d, 2 * d and so on, which are the child's turns 0, 1, 2 and so on, and to the others those after.
+use mathlib.Core.Path.{_≡_}
 use mathlib.Core.List.{List}
 use mathlib.Core.Bool.{cond}
-use Prim.Native.Nat.{ℕ, zero, suc, _+_, _-_, _/_, _%_}
+use Prim.Native.Nat.{ℕ, zero, suc, _+_, _-_, _/_, _%_, _<_, _≤_}
 use lib.Dec.{eqb, leb}
 use lib.ListN.{length, getD}
 use Rattle.records.specs.declared.kinds.Inner.{Inner}
+use Rattle.records.specs.declared.kinds.Leaf.{Leaf}
 use Rattle.records.specs.declared.kinds.Node.{Node}
 use Rattle.records.specs.declared.kinds.Node.the-variants as node
 use Rattle.timetable.specs.Meaning.{Meaning, Lawful, repeating, repeating-lawful}
@@ -43,3 +45,12 @@ tree nodes c p = repeating c p (tree-page nodes)
 
 pub tree-lawful : (nodes : List Node) (c p : ℕ) → Lawful (tree nodes c p)
 tree-lawful nodes c p = repeating-lawful c p (tree-page nodes)
+
+-- the same without a number of steps: each node answers or hands on
+pub record HandsTurnsOn (nodes : List Node) (carries : ℕ → ℕ → ℕ) : Type 0 where
+  pub absent-silent : (x v : ℕ) → length nodes ≤ x → carries x v ≡ 0
+  pub leaf-answers : (x v : ℕ) (l : Leaf) → node-at nodes x ≡ node.Leaf l → carries x v ≡ l .page
+  pub childless-silent : (x v : ℕ) (i : Inner) → node-at nodes x ≡ node.Inner i → i .degree ≡ 0 → carries x v ≡ 0
+  pub backward-silent : (x v : ℕ) (i : Inner) → node-at nodes x ≡ node.Inner i → i .«first_child» ≤ x → carries x v ≡ 0
+  pub child-answers : (x v : ℕ) (i : Inner) → node-at nodes x ≡ node.Inner i → 0 < i .degree → x < i .«first_child» →
+      carries x v ≡ carries (i .«first_child» + v % i .degree) (v / i .degree)

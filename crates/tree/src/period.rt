@@ -1,4 +1,5 @@
 ghost use mathlib.Core.Path.{_≡_};
+ghost use Prim.Native.Nat.{_<_};
 ghost use lib.ListN.{length};
 ghost use Rattle.numbers.specs.Computed.{lcm-of-all};
 ghost use Rattle.std.specs.Orderings.{When};
@@ -69,6 +70,17 @@ fn all_joined(cycles: &[u32]) -> Option<u32>
     Some(period)
 }
 
+// A period, unless it is too long.
+fn unless_long(period: u32) -> Option<u32>
+    requires some { ⌜ 0 < period ⌝ }
+    ensures within_longest { λ r. ⌜ Within period r ⌝ }
+{
+    if period > LONGEST {
+        return None;
+    }
+    Some(period)
+}
+
 // The period of a node, from a list in which those of its children stand; `None` where it is too long.
 fn period_of(node: Node, periods: &[u32]) -> Option<u32>
     requires children_known { ⌜ ChildrenKnown node (now periods) ⌝ }
@@ -82,11 +94,7 @@ fn period_of(node: Node, periods: &[u32]) -> Option<u32>
             let Some(together) = all_joined(&periods[first..end]) else {
                 return None;
             };
-            let period = u32::from(inner.degree) * together;
-            if period > LONGEST {
-                return None;
-            }
-            Some(period)
+            unless_long(u32::from(inner.degree) * together)
         }
     }
 }
@@ -129,7 +137,8 @@ fn judged(heap: Global, nodes: &[Node], channels: u8) -> Result<u32, Refusal>
         return Err(Refusal::WrongNode(number));
     }
     let periods = node_periods(heap, nodes)?;
-    let Some(period) = all_joined(&periods.as_slice()[0..usize::from(channels)]) else {
+    let roots = usize::from(channels);
+    let Some(period) = all_joined(&periods.as_slice()[0..roots]) else {
         return Err(Refusal::PeriodTooLong);
     };
     Ok(period)

@@ -2,7 +2,7 @@ ghost use Prim.Native.Nat.{_<_};
 ghost use denote.Ref.{now};
 ghost use mathlib.Core.Path.{_≡_};
 ghost use Rattle.tree.specs.Plans.{PlanAnswer, PlanComesRound};
-ghost use Rattle.tree.specs.Turns.{carried, handed, tree, tree-lawful};
+ghost use Rattle.tree.specs.Turns.{HandsTurnsOn, carried, handed, tree, tree-lawful};
 use crate::period::tree_period;
 use plans::refusal::Refusal;
 use records::kinds::Inner;
@@ -62,6 +62,7 @@ impl<'a> Tree<'a> {
     // The tree whose roots are the first nodes, one for each channel, with its period.
     pub fn plan(heap: Global, nodes: &'a [Node], channels: u8) -> Result<Tree<'a>, Refusal>
         ensures tree_or_refusal { λ r. ⌜ PlanAnswer (now (nodes .entry)) channels r ⌝ }
+        ensures hands_turns_on { λ _. ⌜ HandsTurnsOn (now (nodes .entry)) (carried (now (nodes .entry))) ⌝ }
         ensures comes_round { λ r. ⌜ PlanComesRound r ⌝ }
     {
         planned(heap, nodes, channels)
