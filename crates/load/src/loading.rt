@@ -30,11 +30,23 @@ const CLOSURE_BYTES: usize = 6;
 pub fn load(heap: Global, bytes: &[u8]) -> Result<Loaded, LoadFault>
     ensures loads_or_refuses { λ r. ⌜ Cases r (Loads (now (bytes .entry))) (λ f. LoadRefused (now (bytes .entry)) (told-load f .0) (told-load f .1)) ⌝ }
 {
-    let Plan { film, parts, closures } = read_plan(heap, bytes)?;
+    let Plan {
+        film,
+        parts,
+        closures,
+    } = read_plan(heap, bytes)?;
     let schedule = schedule_of(heap, film, parts)?;
-    if let Some((index, fault)) = first_idle(closures.as_slice(), film.channels, schedule.period()) {
+    if let Some((index, fault)) = first_idle(
+        closures.as_slice(),
+        film.channels,
+        schedule.period(),
+    ) {
         let byte = bytes.len() - 1 - CLOSURE_BYTES * (closures.len() - index);
         return Err(LoadFault::Closing(byte, fault));
     }
-    Ok(Loaded { film, schedule, closures })
+    Ok(Loaded {
+        film,
+        schedule,
+        closures,
+    })
 }

@@ -3,8 +3,8 @@ ghost use Rattle.load.specs.Planning.{FilmInRange, PagodaAnswered, Scheduled};
 ghost use Rattle.std.specs.Orderings.{When};
 use crate::schedule::*;
 use planfile::plan::Parts;
-use plans::refusal::Refusal;
 use planner::pagoda::Pagoda;
+use plans::refusal::Refusal;
 use records::kinds::Channel;
 use records::kinds::Film;
 use rows::period::rows_period;
@@ -49,11 +49,19 @@ pub fn schedule_of(heap: Global, film: Film, parts: Parts) -> Result<Schedule, R
         Parts::Pagoda(list) => Ok(Schedule::Pagoda(pagoda_of(heap, film, list.as_slice())?)),
         Parts::Rows(rows) => {
             let period = rows_period(rows.as_slice())?;
-            Ok(Schedule::Rows(RowPlan { rows, channels, period }))
+            Ok(Schedule::Rows(RowPlan {
+                rows,
+                channels,
+                period,
+            }))
         }
         Parts::Tree(nodes) => {
             let period = tree_period(heap, nodes.as_slice(), channels)?;
-            Ok(Schedule::Tree(TreePlan { nodes, channels, period }))
+            Ok(Schedule::Tree(TreePlan {
+                nodes,
+                channels,
+                period,
+            }))
         }
     }
 }

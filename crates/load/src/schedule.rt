@@ -62,14 +62,12 @@ pub impl Timetable for Schedule as ScheduleTimetable {
                 rows: plan.rows.as_slice(),
                 channels: plan.channels,
                 period: plan.period,
-            }
-            .page_at(channel, slot),
+            }.page_at(channel, slot),
             Schedule::Tree(plan) => Tree {
                 nodes: plan.nodes.as_slice(),
                 channels: plan.channels,
                 period: plan.period,
-            }
-            .page_at(channel, slot),
+            }.page_at(channel, slot),
         }
     }
 }

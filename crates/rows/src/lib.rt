@@ -1,3 +1,3 @@
 // Plans by rows: a page, a channel, and the slots in which the channel carries the page.
-pub mod rows;
 pub mod period;
+pub mod rows;

@@ -23,7 +23,11 @@ fn fits(row: Row, channel: u8, slot: u32) -> bool
 fn offered_page(row: Row, channel: u8, slot: u32) -> Option<u16>
     ensures is_offered { λ r. ⌜ r ≡ offered channel slot row ⌝ }
 {
-    if fits(row, channel, slot) { Some(row.page) } else { None }
+    if fits(row, channel, slot) {
+        Some(row.page)
+    } else {
+        None
+    }
 }
 
 // The lower of two pages, where there are any.

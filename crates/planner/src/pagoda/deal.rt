@@ -4,9 +4,9 @@ ghost use lib.ListN.{length};
 ghost use Rattle.std.specs.Orderings.{When};
 ghost use Rattle.planner.specs.Dealing.{AllDealt, ChannelDealt, KeptBelow};
 ghost use Rattle.planner.specs.Pagoda.{Takes, share};
+use crate::subchannel::Subchannel;
 use plans::period::joined;
 use plans::refusal::Refusal;
-use crate::subchannel::Subchannel;
 use records::kinds::Channel;
 
 // The places for the subchannels of one channel, which are the most that it may have.
