@@ -39,18 +39,12 @@ fn fault_line(heap: Global, fault: ReportFault) -> Result<Vec<Line>, AllocError>
     }
 }
 
-fn all_lines(heap: Global, bytes: &[u8]) -> Result<Vec<Line>, AllocError>
+// The lines on a file: of the plan that it holds, or of its one fault.
+pub fn report(heap: Global, bytes: &[u8]) -> Result<Vec<Line>, AllocError>
     ensures reports { λ r. ⌜ made r (λ v. Reported (now (bytes .entry)) (vec-items v)) ⌝ }
 {
     match plan_lines(heap, bytes) {
         Ok(lines) => Ok(lines),
         Err(fault) => fault_line(heap, fault),
     }
-}
-
-// The lines on a file: of the plan that it holds, or of its one fault.
-pub fn report(heap: Global, bytes: &[u8]) -> Result<Vec<Line>, AllocError>
-    ensures reports { λ r. ⌜ made r (λ v. Reported (now (bytes .entry)) (vec-items v)) ⌝ }
-{
-    all_lines(heap, bytes)
 }

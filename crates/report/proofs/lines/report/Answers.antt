@@ -2,8 +2,8 @@ use mathlib.Core.Path.{sym, subst}
 use Rattle.std.specs.Of.Vec.{vec-items}
 use Rattle.std.proofs.shelf.Results.{made-weaker}
 use Rattle.report.specs.Reports.{FaultLine, Reported, plan}
-use Rattle.report.proofs.Single.{fault-reported}
-use Rattle.report.proofs.lines.all_lines.Needs as need
+use Rattle.report.proofs.Faulty.{fault-reported}
+use Rattle.report.proofs.lines.report.Needs as need
 
 pub returns-in-Ok : need.returns-in-Ok
 returns-in-Ok c =
