@@ -68,7 +68,11 @@ fn takes(delay: u16, subchannels: u8, first: u16) -> bool
 }
 
 // Deals pages to all channels, in order, into a table with a row for each, or refuses at the first that gets none.
-pub fn deal(table: &mut [Subchannel], delay: u16, channels: &[Channel]) -> Result<Progress, Refusal>
+pub(super) fn deal(
+    table: &mut [Subchannel],
+    delay: u16,
+    channels: &[Channel],
+) -> Result<Progress, Refusal>
     requires rows { ⌜ length (now table) ≡ 32 * length (now channels) ⌝ }
     requires in_range { ⌜ (1 ≤ delay) × (delay ≤ 1024) × (length (now channels) ≤ 8) ⌝ }
     ensures all_dealt { λ r. ⌜ AllDealt delay (now (channels .entry)) (now (table .exit)) r ⌝ }
