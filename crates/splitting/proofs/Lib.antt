@@ -1,0 +1,3 @@
+mod Covering
+mod Pieces
+mod Placing
