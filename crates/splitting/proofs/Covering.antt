@@ -7,7 +7,7 @@ use Prim.Native.Nat.{ℕ, suc, zero, _+_, _*_, _-_, _/_, _%_, _<_, _≤_}
 use native.Mathlib.Nat.{mod-lt, add-comm, div-mul-le-self, one-mul, zero-mul, add-zero, mul-pos}
 use native.Mathlib.Numerals.{add-one}
 use native.Mathlib.Omega.{arith}
-use lib.Arith.{mod-mul, digits-div, digits-mod}
+use lib.Arith.{mod-mul}
 use lib.Dec.{eqb, leb}
 use lib.ListN.{length, getD, take}
 use Rattle.std.specs.shelf.Lists.{All, sumBy}
@@ -18,7 +18,7 @@ use Rattle.std.proofs.shelf.Sums.{sumBy-cons, sumBy-append, sumBy-more}
 use Rattle.std.proofs.shelf.Tests.{le-leb, eq-eqb, ne-eqb, cases-eq}
 use Rattle.std.proofs.shelf.Ways.{tells, eqb-tells, leb-tells}
 use Rattle.records.specs.declared.kinds.Row.{Row}
-use Rattle.rows.specs.Rows.{fitting}
+use Rattle.numbers.proofs.Rounds.{place-parts}
 use Rattle.splitting.specs.Answers.{zero-row}
 use Rattle.splitting.specs.Rule.{Splits, Placed, rest-of, row-of}
 use Rattle.splitting.specs.Sequences.{Usable, covers, piece, pieces}
@@ -26,15 +26,7 @@ use Rattle.splitting.specs.Sharing.{row-covers, SharedOut}
 use Rattle.splitting.specs.declared.sequence.FreeSequence.{FreeSequence}
 use Rattle.splitting.proofs.Pieces.{piece-starts}
 
--- t is slot p + j * q of a period of parts * q exactly where it is slot p of the period q, and the turn's number is j
-both : (t parts q p j : ℕ) → 0 < q → 0 < parts → p < q → t % (parts * q) ≡ p + j * q → (t % q ≡ p) × (t / q % parts ≡ j)
-both t parts q p j hq hp inside e =
-    let r : t % q < q = mod-lt t hq in
-    let f : (t / q % parts) * q + t % q ≡ j * q + p = sym (mod-mul t hp hq) ∙ (e ∙ add-comm p (j * q)) in (
-      sym (digits-mod (t / q % parts) r) ∙ (ap (λ n. n % q) f ∙ digits-mod j inside),
-      sym (digits-div (t / q % parts) r) ∙ (ap (λ n. n / q) f ∙ digits-div j inside),
-    )
-
+-- the slots of piece j: those of the sequence whose turn has the number j
 back : (t parts q p j : ℕ) → 0 < q → 0 < parts → t % q ≡ p → t / q % parts ≡ j → t % (parts * q) ≡ p + j * q
 back t parts q p j hq hp e f =
     mod-mul t hp hq ∙ (add-comm ((t / q % parts) * q) (t % q) ∙ (ap (λ n. n + (t / q % parts) * q) e ∙ ap (λ n. p + n * q) f))
@@ -46,7 +38,7 @@ module _ (k t parts : ℕ) (s : FreeSequence) (hq : 0 < s .period) (hp : 0 < par
       let test : eqb (t % (parts * s .period)) (s .start + j * s .period) ≡ (eqb (t % s .period) (s .start) && eqb (t / s .period % parts) j) =
       ⊎-elim
       (λ e.
-      let b = both t parts (s .period) (s .start) j hq hp inside e in
+      let b = place-parts t parts (s .period) j (s .start) hp inside (e ∙ add-comm (s .start) (j * s .period)) in
       let x = eq-eqb _ _ e in
       let y = eq-eqb _ _ (b .0) in
       let z = eq-eqb _ _ (b .1) in rw (x, y, z))

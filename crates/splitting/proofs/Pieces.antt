@@ -48,3 +48,7 @@ length-channels (suc k) = ap suc (length-channels k)
 -- channel k finds a full bag
 pub too-few : (k c most : ℕ) (ys : List FreeSequence) → k < c → Shuffled (whole-channels k) ys → length ys ≡ most → most < c
 too-few k c most ys low before full = omega (arith, length-shuffled _ _ before, length-channels k)
+
+-- a bag that holds every slot of the channels has a place for each
+pub channels-fit : (c most : ℕ) (ys : List FreeSequence) → Shuffled (whole-channels c) ys → length ys ≤ most → c ≤ most
+channels-fit c most ys all fits = omega (arith, length-shuffled _ _ all, length-channels c)

@@ -20,6 +20,7 @@ use Rattle.bag.specs.Bags.{room, Same, Emptied}
 use Rattle.bag.specs.declared.bag.Bag.{Bag}
 use Rattle.splitting.specs.Rule.{Splits, Refuses}
 use Rattle.splitting.specs.Sequences.{whole-channels}
+use Rattle.splitting.specs.Sharing.{Apart}
 use Rattle.splitting.specs.declared.sequence.FreeSequence.{FreeSequence}
 
 -- the delay m, the channels c and the pages n are in range
@@ -62,6 +63,11 @@ NoPlan m c n many most t =
     ⊎ ((Enough c n many most × Refuses m most (whole-channels c) n t)
     ⊎ ((t ≡ (4, [])) × Enough c n many most × TooLong m c n most))
 
+-- the plan, or why there is none
+abbrev pub FillAnswer : ℕ → ℕ → ℕ → ℕ → List Row → List Row → Result ℕ Refusal → Type 0
+FillAnswer m c n most before after answer =
+    Cases answer (Plan m c n most before after) (λ e. NoPlan m c n (length before) most (told e))
+
 -- 1: a number is out of range, and nothing has changed; else there is no plan, and every row is zero and the bag empty
 abbrev pub Refused : ℕ → ℕ → ℕ → List Row → List Row → Bag FreeSequence → Bag FreeSequence → ℕ × List ℕ → Type 0
 Refused m c n before after was is t =
@@ -71,6 +77,10 @@ Refused m c n before after was is t =
 abbrev pub SplittingAnswer : ℕ → ℕ → ℕ → List Row → List Row → Bag FreeSequence → Bag FreeSequence → Result ℕ Refusal → Type 0
 SplittingAnswer m c n before after was is answer =
     Cases answer (λ p. Plan m c n (room was) before after p × Emptied is) (λ e. Refused m c n before after was is (told e))
+
+-- no two rows of the plan have the same slot of the same channel
+abbrev pub SplittingApart : ℕ → List Row → Result ℕ Refusal → Type 0
+SplittingApart n after answer = made answer (λ _. Apart (take n after))
 
 -- with nothing closed, no entry of the plan is stray and no tune-in starves
 abbrev pub SplittingSound : ℕ → ℕ → ℕ → List Row → Result ℕ Refusal → Type 0

@@ -1,8 +1,7 @@
-use mathlib.Core.Path.{_∙_, sym, subst}
-use Rattle.std.proofs.shelf.Results.{err-from-errBy}
+use mathlib.Core.Path.{_∙_}
+use Rattle.records.proofs.Exits.{exit}
 use Rattle.bag.specs.Bags.{held, room}
 use Rattle.bag.proofs.Memory.{same-memory-trans}
-use Rattle.splitting.specs.Steps.{AfterChannels}
 use Rattle.splitting.proofs.Pieces.{channels-more, too-few}
 use Rattle.splitting.proofs.planner.put_channels.Needs as need
 
@@ -14,11 +13,10 @@ loop-k-again c = (
 
 pub returns-in-Break-put : need.returns-in-Break-put
 returns-in-Break-put c =
-    let p = err-from-errBy (c .from-residual .result) (c .from-residual .ensures .1) in
     let full = c .in-Break-put .ensures tt .held-or-full in
     let memory = same-memory-trans (c .args .bag .now) (c .clear .last .self) (c .loop-k .bag) (c .clear .ensures .same-memory) (c .loop-k .inv .1) in
     record {
-      channels-or-full = subst (AfterChannels (c .args .channels) (c .args .bag .now) (c .put .last .self)) (sym (p .1))
+      channels-or-full = exit _ _ (c .from-residual .result) (c .in-Break-put .field-0 .0) (c .from-residual .ensures .1)
           (too-few (c .loop-k .k) (c .args .channels) (room (c .args .bag .now)) (held (c .loop-k .bag)) (c .loop-k-test .taken) (c .loop-k .inv .0) (full .1 ∙ memory .same-room));
       same-memory = same-memory-trans (c .args .bag .now) (c .loop-k .bag) (c .put .last .self) memory (c .put .ensures .same-memory);
     }

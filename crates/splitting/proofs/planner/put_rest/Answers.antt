@@ -1,13 +1,12 @@
-use mathlib.Core.Path.{_≡_, _∙_, sym, subst}
+use mathlib.Core.Path.{_≡_, _∙_, subst}
 use mathlib.Core.List.{_++_}
 use Prim.Native.Nat.{ℕ, _-_}
 use native.Mathlib.Omega.{arith}
 use Rattle.std.specs.Slices.{Shuffled}
-use Rattle.std.proofs.shelf.Results.{err-from-errBy}
+use Rattle.records.proofs.Exits.{exit}
 use Rattle.bag.specs.Bags.{held, room}
 use Rattle.bag.proofs.Memory.{same-memory-trans}
 use Rattle.splitting.specs.Sequences.{pieces}
-use Rattle.splitting.specs.Steps.{AfterRest}
 use Rattle.splitting.proofs.Pieces.{piece-starts, pieces-more, too-many}
 use Rattle.splitting.proofs.planner.put_rest.Needs as need
 
@@ -27,10 +26,9 @@ loop-j-again c =
 
 pub returns-in-Break-put : need.returns-in-Break-put
 returns-in-Break-put c =
-    let p = err-from-errBy (c .from-residual .result) (c .from-residual .ensures .1) in
     let full = c .in-Break-put .ensures tt .held-or-full in
     record {
-      rest-or-full = subst (AfterRest (c .args .sequence) (c .args .parts) (c .args .bag .now) (c .put .last .self)) (sym (p .1))
+      rest-or-full = exit _ _ (c .from-residual .result) (c .in-Break-put .field-0 .0) (c .from-residual .ensures .1)
           (too-many (c .args .sequence) (c .args .parts) (c .loop-j .j) (held (c .args .bag .now)) (held (c .loop-j .bag)) (room (c .args .bag .now)) (c .loop-j .kept .j) (c .loop-j-test .taken) (c .loop-j .inv .0) (full .1 ∙ c .loop-j .inv .1 .same-room));
       same-memory = same-memory-trans (c .args .bag .now) (c .loop-j .bag) (c .put .last .self) (c .loop-j .inv .1) (c .put .ensures .same-memory);
     }
