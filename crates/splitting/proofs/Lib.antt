@@ -1,6 +1,8 @@
 mod Airing
 mod Apart
 mod Covering
+mod Listing
+mod Ordering
 mod Pieces
 mod Placing
 mod Planning

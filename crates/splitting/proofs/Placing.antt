@@ -9,6 +9,7 @@ use lib.ListN.{length, getD, set}
 use lib.Seq.{getD-set-same, getD-set-other}
 use Rattle.std.specs.Slices.{Shuffled}
 use Rattle.std.specs.shelf.Lists.{All}
+use Rattle.std.proofs.shelf.Lists.{getD-append-left, getD-push}
 use Rattle.std.proofs.shelf.Sorted.{all-shuffled, shuffled-trans}
 use Rattle.records.specs.declared.kinds.Row.{Row}
 use Rattle.plans.specs.Refusals.{told}
@@ -58,6 +59,14 @@ splits-more m most free n rows row mid left low before here =
       splits-kept m most free n rows (set rows n row) mid (λ k d h. getD-set-other rows n k row d (omega arith)) before,
       λ d. subst (λ (r : Row). Placed (n + 1) (m + n) most mid r left) (sym (getD-set-same rows n row d low)) here,
     )
+
+-- the same, of rows of which there are n so far
+pub splits-push : (m most : ℕ) (free : List FreeSequence) (n : ℕ) (rows : List Row) (row : Row) (mid left : List FreeSequence) → length rows ≡ n → Splits m most free n rows mid → Placed (n + 1) (m + n) most mid row left → Splits m most free (suc n) (rows ++ (row ∷ [])) left
+splits-push m most free n rows row mid left long before here = (
+  mid,
+  splits-kept m most free n rows (rows ++ (row ∷ [])) mid (λ k d h. getD-append-left rows (row ∷ []) d k (omega arith)) before,
+  λ d. subst (λ (r : Row). Placed (n + 1) (m + n) most mid r left) (sym (getD-push rows row d n long)) here,
+)
 
 -- page k + 1 of n gets no row
 pub refuses : (m most : ℕ) (free : List FreeSequence) (n k : ℕ) (rows : List Row) (mid : List FreeSequence) (t : ℕ × List ℕ) → k < n → Splits m most free k rows mid → ((t ≡ (5, k ∷ [])) × (mid ≡ [])) ⊎ ((t ≡ (6, [])) × Crowded (m + k) most mid) → Refuses m most free n t

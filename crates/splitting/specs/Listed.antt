@@ -1,14 +1,16 @@
 -- The rule of splitting, computed on lists.
 use mathlib.Core.Bool.{cond}
+use mathlib.Core.Path.{_≡_}
 use mathlib.Core.List.{List, [], _∷_, _++_}
 use Prim.Native.Nat.{ℕ, zero, suc, _+_}
 use lib.Dec.{leb}
 use lib.ListN.{length}
+use Rattle.std.specs.Results.{Cases}
 use Rattle.std.specs.declared.result.Result.{Result}
 use Rattle.std.specs.declared.result.Result.the-variants.{Ok, Err}
 use Rattle.records.specs.declared.kinds.Row.{Row}
 use Rattle.splitting.specs.Sequences.{earlier}
-use Rattle.splitting.specs.Rule.{rest-of, row-of}
+use Rattle.splitting.specs.Rule.{Splits, Refuses, rest-of, row-of}
 use Rattle.splitting.specs.declared.sequence.FreeSequence.{FreeSequence}
 
 -- a sequence, and the others
@@ -47,3 +49,8 @@ one-page-more w most n (Err t) = Err t
 abbrev pub split-list : ℕ → ℕ → List FreeSequence → ℕ → Listed
 split-list m most free zero = Ok ([], free)
 split-list m most free (suc n) = one-page-more (m + n) most n (split-list m most free n)
+
+-- the rows and what is free follow the rule, and so does a refusal
+abbrev pub Follows : ℕ → ℕ → List FreeSequence → ℕ → Listed → Type 0
+Follows m most free n answer =
+    Cases answer (λ x. Splits m most free n (x .0) (x .1) × (length (x .0) ≡ n)) (Refuses m most free n)
