@@ -33,3 +33,10 @@ ranks-then a b ra rb = record {
       (other (a z y) (b y z) (ra .chain z x y t (p .0)) (q .1))))
       (cases-bool (a z x)));
 }
+
+-- what ties in both ties in each
+pub ties-then : {X : Type 0} (a b : X → X → Bool) (x y : X) → by-then a b x y ≡ false → by-then a b y x ≡ false → (a x y ≡ false) × (a y x ≡ false) × (b x y ≡ false) × (b y x ≡ false)
+ties-then a b x y e f =
+    let p = or-parts (a x y) (not (a y x) && b x y) e in
+    let q = or-parts (a y x) (not (a x y) && b y x) f in
+    (p .0, q .0, other (a y x) (b x y) (q .0) (p .1), other (a x y) (b y x) (p .0) (q .1))

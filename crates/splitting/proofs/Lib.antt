@@ -6,4 +6,5 @@ mod Ordering
 mod Pieces
 mod Placing
 mod Planning
+mod Settling
 mod Sounds

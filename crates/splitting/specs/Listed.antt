@@ -2,9 +2,9 @@
 use mathlib.Core.Bool.{cond}
 use mathlib.Core.Path.{_≡_}
 use mathlib.Core.List.{List, [], _∷_, _++_}
-use Prim.Native.Nat.{ℕ, zero, suc, _+_}
+use Prim.Native.Nat.{ℕ, zero, suc, _+_, _≤_}
 use lib.Dec.{leb}
-use lib.ListN.{length}
+use lib.ListN.{length, take}
 use Rattle.std.specs.Results.{Cases}
 use Rattle.std.specs.declared.result.Result.{Result}
 use Rattle.std.specs.declared.result.Result.the-variants.{Ok, Err}
@@ -54,3 +54,19 @@ split-list m most free (suc n) = one-page-more (m + n) most n (split-list m most
 abbrev pub Follows : ℕ → ℕ → List FreeSequence → ℕ → Listed → Type 0
 Follows m most free n answer =
     Cases answer (λ x. Splits m most free n (x .0) (x .1) × (length (x .0) ≡ n)) (Refuses m most free n)
+
+-- what is computed follows the rule,
+abbrev pub ListsFollow : Type 0
+ListsFollow = (m most : ℕ) (free : List FreeSequence) (n : ℕ) → Follows m most free n (split-list m most free n)
+
+-- and the rule leaves nothing open: the rows that it gives are those that are computed,
+abbrev pub RowsListed : Type 0
+RowsListed =
+    (m most : ℕ) (free : List FreeSequence) (n : ℕ) (rows : List Row) (left : List FreeSequence) → n ≤ length rows →
+    Splits m most free n rows left → (rest : List FreeSequence) × (split-list m most free n ≡ Ok (take n rows, rest))
+
+-- and so are its refusals
+abbrev pub RefusalsListed : Type 0
+RefusalsListed =
+    (m most : ℕ) (free : List FreeSequence) (n : ℕ) (t : ℕ × List ℕ) →
+    Refuses m most free n t → split-list m most free n ≡ Err t

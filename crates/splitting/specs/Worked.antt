@@ -6,9 +6,8 @@ use Rattle.std.specs.declared.result.Result.{Result}
 use Rattle.std.specs.declared.result.Result.the-variants.{Ok, Err}
 use Rattle.numbers.specs.Computed.{lcm-of-all}
 use Rattle.rows.specs.Period.{row-periods}
-use Rattle.splitting.specs.Listed.{Listed, Follows, split-list}
+use Rattle.splitting.specs.Listed.{Listed, split-list}
 use Rattle.splitting.specs.Sequences.{whole-channels}
-use Rattle.splitting.specs.declared.sequence.FreeSequence.{FreeSequence}
 
 -- the channel, the start and the period of each page's row, and the period that they have together; or a refusal
 abbrev pub Split : Type 0
@@ -27,7 +26,3 @@ SplitsAsWorked =
     (split-of 1 3 9
     ≡ Ok ((1, 0, 1) ∷ ((2, 0, 2) ∷ ((3, 0, 3) ∷ ((2, 1, 4) ∷ ((2, 3, 4) ∷ ((3, 1, 6) ∷ ((3, 4, 6) ∷ ((3, 2, 6) ∷ ((3, 5, 6) ∷ [])))))))), 12))
     × (split-of 1 3 10 ≡ Err (5, 9 ∷ []))
-
--- what is computed on lists follows the rule
-abbrev pub ListsFollow : Type 0
-ListsFollow = (m most : ℕ) (free : List FreeSequence) (n : ℕ) → Follows m most free n (split-list m most free n)
