@@ -4,6 +4,7 @@ use mathlib.Core.List.{List, [], _∷_, _++_}
 use Prim.Native.Nat.{ℕ, zero, suc, _*_, _/_, _%_, _<_, _≤_}
 use native.Mathlib.Nat.{mod-lt}
 use native.Mathlib.Omega.{arith}
+use lib.ListN.{length, getD}
 use Rattle.numbers.specs.Divisors.{Divides, GreatestCommonDivisor, LeastCommonMultiple, MultipleOfAll, LeastCommonMultipleOfAll}
 use Rattle.numbers.specs.Computed.{gcd-in, gcd-of, lcm-of, lcm-of-all}
 use Rattle.numbers.proofs.Dividing.{one-divides, divides-trans, divides-antisym, divides-le}
@@ -25,6 +26,12 @@ multiple-front (x ∷ xs) ys m h = (h .0, multiple-front xs ys m (h .1))
 pub multiple-back : (xs ys : List ℕ) (m : ℕ) → MultipleOfAll (xs ++ ys) m → MultipleOfAll ys m
 multiple-back [] ys m h = h
 multiple-back (x ∷ xs) ys m h = multiple-back xs ys m (h .1)
+
+-- and of each number
+pub multiple-at : (xs : List ℕ) (m i d : ℕ) → i < length xs → MultipleOfAll xs m → Divides (getD xs i d) m
+multiple-at [] m i d low h = absurd (omega (arith, low))
+multiple-at (x ∷ xs) m zero d low h = h .0
+multiple-at (x ∷ xs) m (suc i) d low h = multiple-at xs m i d (omega (arith, low)) (h .1)
 
 -- of no numbers it is 1
 pub lcm-all-none : LeastCommonMultipleOfAll [] 1

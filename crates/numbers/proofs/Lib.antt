@@ -1,3 +1,4 @@
 pub mod All
 pub mod Common
 pub mod Dividing
+pub mod Rounds

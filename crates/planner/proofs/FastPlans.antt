@@ -13,7 +13,7 @@ use Rattle.timetable.specs.Closed.{aired}
 use Rattle.timetable.specs.Windows.{Sound, Starves}
 use Rattle.timetable.proofs.Repeating.{page-of-at, page-of-below}
 use Rattle.planner.specs.Fast.{fast, fast-page, fast-delay, fast-pages}
-use Rattle.planner.proofs.Rounds.{comes-round, Comes-round}
+use Rattle.numbers.proofs.Rounds.{comes-round, Comes-round}
 
 -- a smaller power of two divides a larger one
 power-divides : (i j : ℕ) → i ≤ j → Divides (2 ^ i) (2 ^ j)

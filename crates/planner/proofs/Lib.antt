@@ -3,5 +3,4 @@ mod FastPlans
 mod PagodaPlans
 mod PagodaSounds
 mod Questions
-mod Rounds
 mod Table

@@ -18,7 +18,7 @@ use Rattle.timetable.specs.Windows.{Sound, Starves}
 use Rattle.timetable.proofs.Repeating.{page-of-at, page-of-below}
 use Rattle.planner.specs.Pagoda.{Deals, count-at, begins, share-of, first-of, round, channel-cycles, cycles, pagoda, pagoda-page, pagoda-pages}
 use Rattle.planner.proofs.Channels.{first-of-grows, first-of-low, share-some, cycle-fits, Subchannel-of, subchannel-of}
-use Rattle.planner.proofs.Rounds.{comes-round, Comes-round, place-parts}
+use Rattle.numbers.proofs.Rounds.{comes-round, Comes-round, place-parts}
 
 -- the cycle of each subchannel divides what all of a channel's divide
 channel-cycle-divides : (m s f p n : ℕ) → MultipleOfAll (channel-cycles m s f n) p → (j : ℕ) → j < n → Divides (s * share-of m s f j) p

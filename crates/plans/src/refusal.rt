@@ -14,6 +14,10 @@ pub enum Refusal {
     TooManyPages,
     // The period, or that of a node of a tree, is above 65,536; or a row has no period.
     PeriodTooLong,
+    // So many pages have their slots, and none are free for the next.
+    NoFreeSequence(usize),
+    // The list of rows is too short for the pages, or the bag of free sequences has too few places.
+    NoRoom,
     // The node with this number is an inner node with no children, or with children that do not come after it or are not there.
     WrongNode(usize),
     // There is no memory for the plan.

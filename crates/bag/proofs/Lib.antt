@@ -1,0 +1,3 @@
+pub mod Memory
+mod Moves
+pub mod Ranking

@@ -1,0 +1,4 @@
+pub mod Bags
+pub mod Findings
+pub mod Orders
+pub mod Places

@@ -1,0 +1,10 @@
+mod Airing
+mod Apart
+mod Covering
+mod Listing
+mod Ordering
+mod Pieces
+mod Placing
+mod Planning
+mod Settling
+mod Sounds
