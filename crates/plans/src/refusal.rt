@@ -34,6 +34,8 @@ impl Refusal {
             Refusal::WrongSubchannels => 2,
             Refusal::TooManyPages => 3,
             Refusal::PeriodTooLong => 4,
+            Refusal::NoFreeSequence(_) => 5,
+            Refusal::NoRoom => 6,
             Refusal::WrongNode(_) => 7,
             Refusal::OutOfMemory => 0,
         }
