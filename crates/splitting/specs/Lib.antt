@@ -4,4 +4,4 @@ pub mod Rule
 pub mod Sequences
 pub mod Sharing
 pub mod Steps
-pub mod Worked
+pub mod Shown

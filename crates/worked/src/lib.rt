@@ -5,7 +5,7 @@ ghost use Rattle.worked.specs.Worked.{LoopsAsWorked, PeriodComputed};
 pub fn worked_loops() -> u8
     ensures loops_as_worked { λ _. ⌜ LoopsAsWorked ⌝ }
     ensures period_computed { λ _. ⌜ PeriodComputed ⌝ }
-    ensures how_many { λ r. ⌜ r ≡ 4 ⌝ }
+    ensures how_many { λ r. ⌜ r ≡ 6 ⌝ }
 {
-    4
+    6
 }

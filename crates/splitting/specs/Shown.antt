@@ -1,6 +1,5 @@
--- Plans by splitting that are worked through by hand.
-use mathlib.Core.Path.{_≡_}
-use mathlib.Core.List.{List, [], _∷_, map}
+-- Plans by splitting, computed, as they are shown.
+use mathlib.Core.List.{List, map}
 use Prim.Native.Nat.{ℕ}
 use Rattle.std.specs.declared.result.Result.{Result}
 use Rattle.std.specs.declared.result.Result.the-variants.{Ok, Err}
@@ -20,9 +19,3 @@ shown (Err t) = Err t
 -- the plan of n pages at the delay m on c channels, with a bag of 16 places
 abbrev pub split-of : ℕ → ℕ → ℕ → Split
 split-of m c n = shown (split-list m 16 (whole-channels c) n)
-
-abbrev pub SplitsAsWorked : Type 0
-SplitsAsWorked =
-    (split-of 1 3 9
-    ≡ Ok ((1, 0, 1) ∷ ((2, 0, 2) ∷ ((3, 0, 3) ∷ ((2, 1, 4) ∷ ((2, 3, 4) ∷ ((3, 1, 6) ∷ ((3, 4, 6) ∷ ((3, 2, 6) ∷ ((3, 5, 6) ∷ [])))))))), 12))
-    × (split-of 1 3 10 ≡ Err (5, 9 ∷ []))

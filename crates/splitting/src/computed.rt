@@ -1,14 +1,13 @@
+ghost use mathlib.Core.Bool.{true};
 ghost use mathlib.Core.Path.{_≡_};
 ghost use Rattle.splitting.specs.Listed.{ListsFollow, RefusalsListed, RowsListed};
-ghost use Rattle.splitting.specs.Worked.{SplitsAsWorked};
 
-// How many plans are worked through by hand and come out of the rule as they should.
-pub fn worked_splits() -> u8
-    ensures splits_as_worked { λ _. ⌜ SplitsAsWorked ⌝ }
+// That the rule leaves nothing open: its rows and its refusals are those that are computed on lists.
+pub fn rule_is_computed() -> bool
     ensures lists_follow_rule { λ _. ⌜ ListsFollow ⌝ }
     ensures rule_gives_listed_rows { λ _. ⌜ RowsListed ⌝ }
     ensures rule_gives_listed_refusals { λ _. ⌜ RefusalsListed ⌝ }
-    ensures how_many { λ r. ⌜ r ≡ 2 ⌝ }
+    ensures stands { λ r. ⌜ r ≡ true ⌝ }
 {
-    2
+    true
 }
