@@ -1,4 +1,23 @@
 // Tests of bags and of plans by splitting.
+ghost use Prim.Native.Nat.{ℕ, _<_};
+ghost use mathlib.Core.Path.{_≡_};
+ghost use lib.ListN.{length, getD};
+use bag::bag::Bag;
+use records::kinds::Row;
+use splitting::planner::plan;
+use splitting::sequence::FreeSequence;
+use splitting::sequence::FreeSequenceRanked;
+
+// Plans with a bag over lent places, and gives these back all zero: what a bag leaves is what its lender then has.
+pub fn plan_and_give_back(places: &mut [FreeSequence], rows: &mut [Row]) -> bool
+    ensures places_come_back_zero { λ _. ⌜ ((k : ℕ) → k < length (now (places .exit)) → getD (now (places .exit)) k (record { channel = 0; start = 0; period = 0 }) ≡ record { channel = 0; start = 0; period = 0 }) ⌝ }
+{
+    let mut bag = Bag::over(places);
+    let planned = plan(1, 1, 1, rows, &mut bag).is_ok();
+    bag.clear();
+    planned
+}
+
 #[cfg(test)]
 mod tests {
     use bag::bag::Bag;
