@@ -5,7 +5,7 @@ use mathlib.Core.Path.{_≡_}
 use mathlib.Core.List.{List, [], _∷_}
 use denote.Ref.{name}
 use Prim.Native.Nat.{ℕ, _<_}
-use lib.ListN.{length, take, getD}
+use lib.ListN.{length, take}
 use Rattle.std.specs.Slices.{Shuffled}
 use Rattle.std.specs.shelf.Lists.{All}
 use Rattle.std.specs.declared.option.Option.{Option}

@@ -1,8 +1,8 @@
 -- One page more, in the rule and in the bag.
-use mathlib.Core.Path.{_≡_, refl, sym, ap, subst, _∙_}
+use mathlib.Core.Path.{_≡_, refl, sym, subst}
 use mathlib.Core.List.{List, [], _∷_, _++_}
 use mathlib.Core.Logic.{_⊎_, inl, inr}
-use Prim.Native.Nat.{ℕ, zero, suc, _+_, _-_, _/_, _<_, _≤_}
+use Prim.Native.Nat.{ℕ, zero, suc, _+_, _<_}
 use native.Mathlib.Numerals.{add-one}
 use native.Mathlib.Omega.{arith}
 use lib.ListN.{length, getD, set}
@@ -12,13 +12,11 @@ use Rattle.std.specs.shelf.Lists.{All}
 use Rattle.std.proofs.shelf.Lists.{getD-append-left, getD-push}
 use Rattle.std.proofs.shelf.Sorted.{all-shuffled, shuffled-trans}
 use Rattle.records.specs.declared.kinds.Row.{Row}
-use Rattle.plans.specs.Refusals.{told}
-use Rattle.plans.specs.declared.refusal.Refusal.{Refusal}
-use Rattle.bag.specs.Bags.{held, room, Takes, SameMemory}
+use Rattle.bag.specs.Bags.{held, room, Takes}
 use Rattle.bag.specs.declared.bag.Bag.{Bag}
 use Rattle.bag.proofs.Memory.{held-within}
-use Rattle.splitting.specs.Rule.{Chosen, Placed, Crowded, Splits, NoneFree, NoRoomFor, Refuses, rest-of, row-of}
-use Rattle.splitting.specs.Sequences.{Usable, earlier, pieces}
+use Rattle.splitting.specs.Rule.{Chosen, Placed, Crowded, Splits, Refuses, rest-of, row-of}
+use Rattle.splitting.specs.Sequences.{Usable, earlier}
 use Rattle.splitting.specs.declared.sequence.FreeSequence.{FreeSequence}
 
 module _ (w : ℕ) (s : FreeSequence) (a b : Bag FreeSequence) (taken : Takes (earlier w) s a b) where

@@ -1,11 +1,11 @@
 -- The plan and its period, or why there is none.
-use mathlib.Core.Path.{_≡_, refl, sym, ap, subst, _∙_}
+use mathlib.Core.Path.{_≡_, sym, _∙_}
 use mathlib.Core.Bool.{false}
 use mathlib.Core.List.{List}
 use mathlib.Core.Logic.{_⊎_, inl, inr}
-use Prim.Native.Nat.{ℕ, _<_, _≤_}
+use Prim.Native.Nat.{ℕ}
 use native.Mathlib.Omega.{arith}
-use lib.ListN.{length, getD, take, drop}
+use lib.ListN.{length, take, drop}
 use Rattle.std.specs.Results.{isErr}
 use Rattle.std.specs.declared.option.Option.the-variants.{None}
 use Rattle.std.specs.declared.result.Result.{Result}
@@ -14,12 +14,11 @@ use Rattle.std.proofs.shelf.Lists.{getD-map}
 use Rattle.std.proofs.shelf.Tests.{true≢false}
 use Rattle.records.specs.declared.kinds.Row.{Row}
 use Rattle.plans.specs.Periods.{PeriodOf}
-use Rattle.plans.specs.Refusals.{told}
 use Rattle.plans.specs.declared.refusal.Refusal.{Refusal}
-use Rattle.bag.specs.Bags.{room, Same, Emptied}
+use Rattle.bag.specs.Bags.{room, Emptied}
 use Rattle.bag.specs.declared.bag.Bag.{Bag}
 use Rattle.rows.specs.Period.{row-periods, Idle, RowsPeriod}
-use Rattle.splitting.specs.Answers.{Askable, Enough, Plan, TooLong, NoPlan, FillAnswer, AllZero, SplittingAnswer, SplittingApart, SplittingSound, zero-row}
+use Rattle.splitting.specs.Answers.{Askable, Enough, FillAnswer, SplittingAnswer, SplittingApart, SplittingSound, zero-row}
 use Rattle.splitting.specs.Rule.{Splits}
 use Rattle.splitting.specs.Sequences.{whole-channels}
 use Rattle.splitting.specs.declared.sequence.FreeSequence.{FreeSequence}

@@ -1,9 +1,8 @@
-use mathlib.Core.Path.{_≡_, _∙_, sym, subst}
-use Prim.Native.Nat.{ℕ, _+_, _<_}
+use mathlib.Core.Path.{_∙_, sym, subst}
+use Prim.Native.Nat.{ℕ, _+_}
 use native.Mathlib.Omega.{arith}
-use lib.ListN.{length, set, drop}
+use lib.ListN.{set}
 use Rattle.std.proofs.shelf.Lists.{drop-set-lt}
-use Rattle.std.proofs.shelf.Results.{err-from-errBy}
 use Rattle.records.specs.declared.kinds.Row.{Row}
 use Rattle.bag.specs.Bags.{held, room}
 use Rattle.bag.proofs.Memory.{same-memory-trans}
