@@ -2,4 +2,3 @@
 pub mod computed;
 pub mod planner;
 pub mod sequence;
-
