@@ -18,10 +18,11 @@ use Rattle.plans.specs.declared.refusal.Refusal.{Refusal}
 use Rattle.bag.specs.Bags.{room, Emptied}
 use Rattle.bag.specs.declared.bag.Bag.{Bag}
 use Rattle.rows.specs.Period.{row-periods, Idle, RowsPeriod}
-use Rattle.splitting.specs.Answers.{Askable, Enough, FillAnswer, SplittingAnswer, SplittingApart, SplittingSound, zero-row}
+use Rattle.splitting.specs.Answers.{Askable, Enough, FillAnswer, SplittingAnswer, SplittingApart, SplittingListed, SplittingSound, zero-row}
 use Rattle.splitting.specs.Rule.{Splits}
 use Rattle.splitting.specs.Sequences.{whole-channels}
 use Rattle.splitting.specs.declared.sequence.FreeSequence.{FreeSequence}
+use Rattle.splitting.proofs.Settling.{rows-listed}
 use Rattle.splitting.proofs.Sounds.{splits-own, splits-apart, splits-sound}
 
 module _ (m c n most : ℕ) (before after : List Row) (left : List FreeSequence) (askable : Askable m c n) (enough : Enough c n (length before) most) (same : length after ≡ length before) (splits : Splits m most (whole-channels c) n after left) (others : drop n after ≡ drop n before) where
@@ -47,6 +48,12 @@ module _ (m c n : ℕ) (before after : List Row) (was is : Bag FreeSequence) (sa
       let plan = h .0 in
       splits-apart m c n (room was) after (plan .left) (plan .askable .delay .0) (omega (arith, plan .enough .rows)) (plan .splits)
   answer-apart (Err e) h = tt
+
+  pub answer-listed : (answer : Result ℕ Refusal) → SplittingAnswer m c n before after was is answer → SplittingListed m c n (room was) after answer
+  answer-listed (Ok p) h =
+      let plan = h .0 in
+      rows-listed m (room was) (whole-channels c) n after (plan .left) (omega (arith, plan .enough .rows)) (plan .splits)
+  answer-listed (Err e) h = tt
 
   pub answer-sound : (answer : Result ℕ Refusal) → SplittingAnswer m c n before after was is answer → SplittingSound m c n after answer
   answer-sound (Ok p) h =

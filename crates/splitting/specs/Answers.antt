@@ -8,6 +8,7 @@ use Rattle.std.specs.Results.{Cases}
 use Rattle.std.specs.Vec.{made}
 use Rattle.std.specs.declared.option.Option.the-variants.{Some, None}
 use Rattle.std.specs.declared.result.Result.{Result}
+use Rattle.std.specs.declared.result.Result.the-variants.{Ok}
 use Rattle.records.specs.declared.kinds.Row.{Row}
 use Rattle.timetable.specs.Closed.{aired}
 use Rattle.timetable.specs.Windows.{Sound}
@@ -18,6 +19,7 @@ use Rattle.rows.specs.Period.{row-periods}
 use Rattle.rows.specs.Rows.{rows-timetable}
 use Rattle.bag.specs.Bags.{room, Same, Emptied}
 use Rattle.bag.specs.declared.bag.Bag.{Bag}
+use Rattle.splitting.specs.Listed.{split-list}
 use Rattle.splitting.specs.Rule.{Splits, Refuses}
 use Rattle.splitting.specs.Sequences.{whole-channels}
 use Rattle.splitting.specs.Sharing.{Apart}
@@ -77,6 +79,11 @@ Refused m c n before after was is t =
 abbrev pub SplittingAnswer : ℕ → ℕ → ℕ → List Row → List Row → Bag FreeSequence → Bag FreeSequence → Result ℕ Refusal → Type 0
 SplittingAnswer m c n before after was is answer =
     Cases answer (λ p. Plan m c n (room was) before after p × Emptied is) (λ e. Refused m c n before after was is (told e))
+
+-- the rows of the plan are those that are computed on lists
+abbrev pub SplittingListed : ℕ → ℕ → ℕ → ℕ → List Row → Result ℕ Refusal → Type 0
+SplittingListed m c n most after answer =
+    made answer (λ _. (rest : List FreeSequence) × (split-list m most (whole-channels c) n ≡ Ok (take n after, rest)))
 
 -- no two rows of the plan have the same slot of the same channel
 abbrev pub SplittingApart : ℕ → List Row → Result ℕ Refusal → Type 0

@@ -4,7 +4,7 @@ ghost use lib.ListN.{length, drop};
 ghost use Rattle.std.specs.shelf.Lists.{All};
 ghost use Rattle.std.specs.Orderings.{Decides};
 ghost use Rattle.bag.specs.Bags.{held, room, SameMemory};
-ghost use Rattle.splitting.specs.Answers.{Askable, AllZero, FillAnswer, SplittingAnswer, SplittingApart, SplittingSound};
+ghost use Rattle.splitting.specs.Answers.{Askable, AllZero, FillAnswer, SplittingAnswer, SplittingApart, SplittingListed, SplittingSound};
 ghost use Rattle.splitting.specs.Sequences.{Usable};
 ghost use Rattle.splitting.specs.Steps.{AfterChannels, AfterRest, AfterPage, AfterPages};
 use crate::sequence::FreeSequence;
@@ -147,6 +147,7 @@ pub fn plan(
 ) -> Result<u32, Refusal>
     ensures plan_or_refusal { λ r. ⌜ SplittingAnswer delay channels pages (now (rows .entry)) (now (rows .exit)) (now (bag .entry)) (now (bag .exit)) r ⌝ }
     ensures same_memory { λ _. ⌜ SameMemory (now (bag .entry)) (now (bag .exit)) ⌝ }
+    ensures rows_as_computed { λ r. ⌜ SplittingListed delay channels pages (room (now (bag .entry))) (now (rows .exit)) r ⌝ }
     ensures no_shared_slot { λ r. ⌜ SplittingApart pages (now (rows .exit)) r ⌝ }
     ensures starves_nobody { λ r. ⌜ SplittingSound delay channels pages (now (rows .exit)) r ⌝ }
 {
