@@ -118,7 +118,7 @@ mod tests {
         true
     }
 
-    fn carries_as_published(rows: &[Row]) -> bool {
+    fn carries_known_pages(rows: &[Row]) -> bool {
         let table = Rows {
             rows,
             channels: 4,
@@ -130,8 +130,8 @@ mod tests {
             && begins(&table, 4, &[5, 10, 12, 14, 15, 5, 11, 13, 20, 24])
     }
 
-    // The plan of these pages on four channels is as published, and the row after them stays as it was.
-    fn published(pages: u16, rows: &mut [Row], places: &mut [FreeSequence]) -> bool {
+    // The plan of these pages on four channels carries the known pages, and the row after them stays as it was.
+    fn known_plan(pages: u16, rows: &mut [Row], places: &mut [FreeSequence]) -> bool {
         let count = usize::from(pages);
         let mut bag = Bag::over(places);
         if plan(1, 4, pages, rows, &mut bag) != Ok(720) || bag.len() != 0 {
@@ -140,12 +140,12 @@ mod tests {
         if rows.len() <= count || rows[count] != OLD_ROW {
             return false;
         }
-        carries_as_published(&rows[..count])
+        carries_known_pages(&rows[..count])
     }
 
     #[test]
-    fn published_plan_on_four_channels() -> Result<(), Fail> {
-        check(published(25, &mut [OLD_ROW; 26], &mut [OLD_PLACE; 7]))
+    fn known_plan_on_four_channels() -> Result<(), Fail> {
+        check(known_plan(25, &mut [OLD_ROW; 26], &mut [OLD_PLACE; 7]))
     }
 
     // A plan that is refused so leaves every row zero and the bag empty.
