@@ -18,6 +18,22 @@ mod tests {
     use tree::period::tree_period;
     use tree::plan::*;
 
+    fn row(page: u16, channel: u8, start: u32, period: u32) -> Row {
+        Row {
+            page,
+            channel,
+            start,
+            period,
+        }
+    }
+
+    fn inner(first_child: u16, degree: u16) -> Node {
+        Node::Inner(Inner {
+            first_child,
+            degree,
+        })
+    }
+
     // The pages that a pagoda plan deals, or the number of its refusal, with 10,000 added.
     fn dealt(heap: Global, delay: u16, counts: &[u8]) -> Result<u16, Fail> {
         let mut channels = Vec::new(heap);
@@ -139,30 +155,10 @@ mod tests {
     #[test]
     fn rows_at_the_edges() -> Result<(), Fail> {
         let rows = [
-            Row {
-                page: 5,
-                channel: 1,
-                start: 1,
-                period: 2,
-            },
-            Row {
-                page: 3,
-                channel: 1,
-                start: 2,
-                period: 3,
-            },
-            Row {
-                page: 9,
-                channel: 1,
-                start: 0,
-                period: 0,
-            },
-            Row {
-                page: 4,
-                channel: 2,
-                start: 7,
-                period: 3,
-            },
+            row(5, 1, 1, 2),
+            row(3, 1, 2, 3),
+            row(9, 1, 0, 0),
+            row(4, 2, 7, 3),
         ];
         let plan = Rows {
             rows: &rows,
@@ -195,21 +191,8 @@ mod tests {
             ),
             (true, Some(6), Some(1)),
         )?;
-        let first = Row {
-            page: 0,
-            channel: 1,
-            start: 0,
-            period: 1,
-        };
-        let silenced = [
-            first,
-            Row {
-                page: 3,
-                channel: 1,
-                start: 0,
-                period: 1,
-            },
-        ];
+        let first = row(0, 1, 0, 1);
+        let silenced = [first, row(3, 1, 0, 1)];
         check_eq(
             Rows {
                 rows: &silenced,
@@ -224,25 +207,7 @@ mod tests {
     fn absurd_trees(rt: LibcRuntime) -> Result<(), Fail> {
         let heap = rt.alloc();
         let leaf = Node::Leaf(Leaf { page: 6 });
-        let nodes = [
-            Node::Inner(Inner {
-                first_child: 2,
-                degree: 2,
-            }),
-            Node::Inner(Inner {
-                first_child: 0,
-                degree: 1,
-            }),
-            leaf,
-            Node::Inner(Inner {
-                first_child: 9,
-                degree: 1,
-            }),
-            Node::Inner(Inner {
-                first_child: 5,
-                degree: 0,
-            }),
-        ];
+        let nodes = [inner(2, 2), inner(0, 1), leaf, inner(9, 1), inner(5, 0)];
         let plan = Tree {
             nodes: &nodes,
             channels: 255,
