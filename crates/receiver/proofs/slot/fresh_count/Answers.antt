@@ -3,7 +3,7 @@ use Rattle.std.proofs.lemmas.List.{at_drop_more, at_drop_all}
 use Rattle.receiver.specs.Count.{bit}
 use Rattle.receiver.specs.Stores.{fresh, wanted, member}
 use Rattle.receiver.proofs.slot.fresh_count.Goals as goal
-use Rattle.receiver.proofs.slot.fresh_count.Goals.{then-is-fresh, else-is-fresh}
+use Rattle.receiver.proofs.slot.fresh_count.Goals.{then-is_fresh, else-is_fresh}
 
 pub loop-i-preserved : goal.loop-i-preserved
 loop-i-preserved c =
@@ -13,9 +13,9 @@ loop-i-preserved c =
     let p = get_or xs c.loop-i.i 0 in
     let step : fresh n s (drop c.loop-i.i xs) ≡ bit (wanted n s p && not (member p (drop (c.loop-i.i + 1) xs))) + fresh n s (drop (c.loop-i.i + 1) xs) =
     at_drop_more (fresh n s) xs c.loop-i.i 0 (omega arith) in
-    elim c.if-is-fresh.branch [
-      | then-is-fresh w ↦ let b : bit (wanted n s p && not (member p (drop (c.loop-i.i + 1) xs))) ≡ 1 = ap bit (sym c.is-fresh.ensures.wanted_last ∙ w.if-is-fresh.true) in (omega (arith, w.count-is), omega (arith, w.count-is))
-      | else-is-fresh w ↦ let b : bit (wanted n s p && not (member p (drop (c.loop-i.i + 1) xs))) ≡ 0 = ap bit (sym c.is-fresh.ensures.wanted_last ∙ w.if-is-fresh.false) in (omega (arith, w.count-is), omega (arith, w.count-is))
+    elim c.if-is_fresh.branch [
+      | then-is_fresh w ↦ let b : bit (wanted n s p && not (member p (drop (c.loop-i.i + 1) xs))) ≡ 1 = ap bit (sym c.is-fresh.ensures.wanted_last ∙ w.if-is-fresh.true) in (omega (arith, w.count-is), omega (arith, w.count-is))
+      | else-is_fresh w ↦ let b : bit (wanted n s p && not (member p (drop (c.loop-i.i + 1) xs))) ≡ 0 = ap bit (sym c.is-fresh.ensures.wanted_last ∙ w.if-is-fresh.false) in (omega (arith, w.count-is), omega (arith, w.count-is))
     ]
 
 pub returns : goal.returns
