@@ -14,8 +14,8 @@ loop-i-preserved c =
     let step : fresh n s (drop c.loop-i.i xs) ≡ bit (wanted n s p && not (member p (drop (c.loop-i.i + 1) xs))) + fresh n s (drop (c.loop-i.i + 1) xs) =
     at_drop_more (fresh n s) xs c.loop-i.i 0 (omega arith) in
     elim c.if-is_fresh.branch [
-      | then-is_fresh w ↦ let b : bit (wanted n s p && not (member p (drop (c.loop-i.i + 1) xs))) ≡ 1 = ap bit (sym c.is-fresh.ensures.wanted_last ∙ w.if-is-fresh.true) in (omega (arith, w.count-is), omega (arith, w.count-is))
-      | else-is_fresh w ↦ let b : bit (wanted n s p && not (member p (drop (c.loop-i.i + 1) xs))) ≡ 0 = ap bit (sym c.is-fresh.ensures.wanted_last ∙ w.if-is-fresh.false) in (omega (arith, w.count-is), omega (arith, w.count-is))
+      | then-is_fresh w ↦ let b : bit (wanted n s p && not (member p (drop (c.loop-i.i + 1) xs))) ≡ 1 = ap bit (sym c.is_fresh.ensures.wanted_last ∙ w.if-is_fresh.true) in (omega (arith, w.count-is), omega (arith, w.count-is))
+      | else-is_fresh w ↦ let b : bit (wanted n s p && not (member p (drop (c.loop-i.i + 1) xs))) ≡ 0 = ap bit (sym c.is_fresh.ensures.wanted_last ∙ w.if-is_fresh.false) in (omega (arith, w.count-is), omega (arith, w.count-is))
     ]
 
 pub returns : goal.returns

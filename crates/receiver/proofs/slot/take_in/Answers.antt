@@ -13,8 +13,8 @@ loop-i-preserved c =
     let rest = drop (c.loop-i.i + 1) c.args.pages.now in
     let one : c.if-is_wanted.store ≡ put n s p =
     elim c.if-is_wanted.branch [
-      | then-is_wanted w ↦ w.store-is ∙ sym (cond-true (wanted n s p) (set s (p - 1) 1) s (sym c.is-wanted.ensures.by_store ∙ w.if-is-wanted.true))
-      | else-is_wanted w ↦ w.store-is ∙ sym (cond-false (wanted n s p) (set s (p - 1) 1) s (sym c.is-wanted.ensures.by_store ∙ w.if-is-wanted.false))
+      | then-is_wanted w ↦ w.store-is ∙ sym (cond-true (wanted n s p) (set s (p - 1) 1) s (sym c.is_wanted.ensures.by_store ∙ w.if-is_wanted.true))
+      | else-is_wanted w ↦ w.store-is ∙ sym (cond-false (wanted n s p) (set s (p - 1) 1) s (sym c.is_wanted.ensures.by_store ∙ w.if-is_wanted.false))
     ] in
     ap (λ x. taken n x rest) one ∙ sym (at_drop_more (taken n s) c.args.pages.now c.loop-i.i 0 (omega arith)) ∙ c.loop-i.invariant
 
