@@ -10,7 +10,7 @@ loop-shown-preserved c =
     let s = c.loop-shown.shown in
     let few = c.requires.few s (omega arith) in
     let more = total_more n xs s in
-    let is : c.max-best.result ≡ max c.loop-shown.best ((total n xs s + get_or xs (n + s) 0) - s) = omega (arith, c.max-best.ensures, c.saturating-sub.ensures, c.loop-shown.invariant.0) in (
+    let is : c.max-best.result ≡ max c.loop-shown.best ((total n xs s + get_or xs (n + s) 0) - s) = omega (arith, c.max-best.ensures, c.saturating_sub.ensures, c.loop-shown.invariant.0) in (
       omega arith,
       omega arith,
       crest_more n xs s c.loop-shown.best c.max-best.result (omega arith) is ∙ c.loop-shown.invariant.2,

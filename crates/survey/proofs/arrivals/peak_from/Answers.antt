@@ -33,8 +33,8 @@ by_comings c =
     (λ s a b. ap (λ x. x - s) (total_is n xs (late c.args.delay n c.args.slot zs) lates s (omega arith)))
 
 -- which is at most the film
-pub overflow-cast-result : goal.overflow-cast-result
-overflow-cast-result c =
+pub overflow_cast-result : goal.overflow_cast-result
+overflow_cast-result c =
     let n = c.args.film in
     let C : ℕ → ℕ = λ s. count n (λ i. leb (late c.args.delay n c.args.slot c.args.cells.now i) s) - s in
     let few : top C 0 n 0 ≤ n =

@@ -4,8 +4,8 @@ use Rattle.survey.specs.Cells.{late}
 use Rattle.survey.proofs.Turns.{spread_more}
 use Rattle.survey.proofs.arrivals.spread.Goals as goal
 
-pub overflow-add-cells-in-loop-place : goal.overflow-add-cells-in-loop-place
-overflow-add-cells-in-loop-place c =
+pub overflow_add-cells-in-loop-place : goal.overflow_add-cells-in-loop-place
+overflow_add-cells-in-loop-place c =
     let k = c.loop-place.place in
     let same = c.loop-place.invariant.0 k (omega arith) in
     let d = c.min-behind.ensures in
