@@ -15,7 +15,7 @@ pub fn check<T: Timetable>(
     pages: u16,
     scratch: &mut [u32],
 ) -> Result<(), CheckRefusal>
-    ensures judges { Judged (meaning table.now) delay pages (length scratch.old) (verdict_of result) }
+    ensures judges { Judged (T.meaning table.now) delay pages (length scratch.old) (verdict_of result) }
     ensures scratch_zeroed { scratch.new ≡ replicate (length scratch.old) 0 }
 {
     let guard = Scratch { cells: scratch };

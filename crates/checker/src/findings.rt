@@ -61,7 +61,7 @@ pub fn findings<T: Timetable>(
     scratch: &mut [u32],
     bag: &mut Bag<Finding>,
 ) -> Result<usize, FindingsRefusal>
-    ensures finds { Finds (meaning table.now) delay pages (length scratch.old) result bag.new }
+    ensures finds { Finds (T.meaning table.now) delay pages (length scratch.old) result bag.new }
     ensures same_memory { SameMemory bag.old bag.new }
     ensures scratch_zeroed { scratch.new ≡ replicate (length scratch.old) 0 }
 {

@@ -6,7 +6,7 @@ use timetable::interface::Timetable;
 
 // Whether the delay, the pages, the channels and the period are in range.
 pub(crate) fn in_range<T: Timetable>(table: &T, delay: u16, pages: u16) -> bool
-    ensures decides_range { Decides result (InRange (meaning table.now) delay pages) }
+    ensures decides_range { Decides result (InRange (T.meaning table.now) delay pages) }
 {
     let channels = table.channels();
     let period = table.period();

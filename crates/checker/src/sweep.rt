@@ -44,13 +44,13 @@ pub(crate) fn sweep<T: Timetable>(
     pages: u16,
     scratch: &mut [u32],
 ) -> Result<(), Stray>
-    requires in_range { InRange (meaning table.now) delay pages }
+    requires in_range { InRange (T.meaning table.now) delay pages }
     requires two_a_page { 2 * pages ≤ length scratch.old }
     requires blank { (j : ℕ) → j < 2 * pages → slice_index scratch.old j ≡ 0 }
     ensures clean_or_stray { MatchResult result
-        (λ _. Clean (meaning table.now) pages (sweep_end (meaning table.now) delay pages) 1
-        × Heard (meaning table.now) delay pages (sweep_end (meaning table.now) delay pages) 1 scratch.new)
-        (λ e. FirstStray (meaning table.now) pages e.slot e.channel e.page) }
+        (λ _. Clean (T.meaning table.now) pages (sweep_end (T.meaning table.now) delay pages) 1
+        × Heard (T.meaning table.now) delay pages (sweep_end (T.meaning table.now) delay pages) 1 scratch.new)
+        (λ e. FirstStray (T.meaning table.now) pages e.slot e.channel e.page) }
 {
     let mut outcome = Ok(());
     'sweep: for slot in 0..table.period() + delay as u32 + pages as u32 - 2 {
@@ -72,10 +72,10 @@ pub(crate) fn sweep<T: Timetable>(
 
 // Sweeps over all entries, over stray ones too.
 pub(crate) fn sweep_all<T: Timetable>(table: &T, delay: u16, pages: u16, scratch: &mut [u32])
-    requires in_range { InRange (meaning table.now) delay pages }
+    requires in_range { InRange (T.meaning table.now) delay pages }
     requires two_a_page { 2 * pages ≤ length scratch.old }
     requires blank { (j : ℕ) → j < 2 * pages → slice_index scratch.old j ≡ 0 }
-    ensures all_heard { Heard (meaning table.now) delay pages (sweep_end (meaning table.now) delay pages) 1 scratch.new }
+    ensures all_heard { Heard (T.meaning table.now) delay pages (sweep_end (T.meaning table.now) delay pages) 1 scratch.new }
 {
     for slot in 0..table.period() + delay as u32 + pages as u32 - 2 {
         for channel in 1..table.channels() + 1 {

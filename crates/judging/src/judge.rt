@@ -25,7 +25,7 @@ fn tell<T: Timetable + Drop>(
     table: T,
     closures: &[Closure],
 ) -> Result<Vec<Line>, AllocError>
-    ensures tells_the_run { IfOk result (λ v. Tells (meaning table) delay pages closures.now v.items) }
+    ensures tells_the_run { IfOk result (λ v. Tells (T.meaning table) delay pages closures.now v.items) }
 {
     let script = script_of(heap, pages, closures)?;
     let mut store = Vec::from_elem(heap, 0u8, pages as usize)?;
@@ -55,8 +55,8 @@ pub fn judge<T: Timetable + Drop>(
     table: T,
     closures: &[Closure],
 ) -> Result<Vec<Line>, AllocError>
-    ensures tells_the_run { IfOk result (λ v. Tells (meaning table) delay pages closures.now v.items) }
-    ensures judges { IfOk result (λ v. Bookable (meaning table) closures.now → InRange (meaning table) delay pages → Judgement (aired (meaning table) closures.now) delay pages v.items) }
+    ensures tells_the_run { IfOk result (λ v. Tells (T.meaning table) delay pages closures.now v.items) }
+    ensures judges { IfOk result (λ v. Bookable (T.meaning table) closures.now → InRange (T.meaning table) delay pages → Judgement (aired (T.meaning table) closures.now) delay pages v.items) }
 {
     tell(heap, delay, pages, table, closures)
 }

@@ -15,7 +15,7 @@ pub(crate) fn perform_all<T: Timetable>(
     calls: Vec<Call>,
     replies: &mut Vec<Reply>,
 ) -> Result<(), AllocError>
-    ensures performs_all { OnOk result (Performs (seen (meaning station.old.table) station.old) calls.items replies.old.items replies.new.items (seen (meaning station.new.table) station.new)) }
+    ensures performs_all { OnOk result (Performs (seen (T.meaning station.old.table) station.old) calls.items replies.old.items replies.new.items (seen (T.meaning station.new.table) station.new)) }
 {
     let mut rest = calls.into_iter();
     while let Some(call) = rest.next() {

@@ -28,7 +28,7 @@ fn stage<T: Timetable + Drop>(
     viewer: Viewer,
     store: &mut [u8],
 ) -> Result<Rehearsal, AllocError>
-    ensures stages { MatchResult result (λ v. Staged (meaning table) delay pages mark script viewer store.old v store.new) (λ _. store.new ≡ store.old) }
+    ensures stages { MatchResult result (λ v. Staged (T.meaning table) delay pages mark script viewer store.old v store.new) (λ _. store.new ≡ store.old) }
 {
     let Script {
         opening,
@@ -57,7 +57,7 @@ pub fn rehearse<T: Timetable + Drop>(
     viewer: Viewer,
     store: &mut [u8],
 ) -> Result<Rehearsal, AllocError>
-    ensures guarantee { MatchResult result (λ v. Rehearsed (meaning table) delay pages mark script viewer store.old v store.new) (λ _. store.new ≡ store.old) }
+    ensures guarantee { MatchResult result (λ v. Rehearsed (T.meaning table) delay pages mark script viewer store.old v store.new) (λ _. store.new ≡ store.old) }
 {
     stage(heap, delay, pages, table, mark, script, viewer, store)
 }

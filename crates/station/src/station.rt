@@ -25,7 +25,7 @@ pub struct Station<T> {
 impl<T: Timetable> Station<T> {
     // A station with nothing closed, which is not checked yet.
     pub fn new(delay: u16, pages: u16, table: T, mark: u32) -> Station<T>
-        ensures is_fresh { seen (meaning result.table) result ≡ fresh (meaning table) delay pages mark }
+        ensures is_fresh { seen (T.meaning result.table) result ≡ fresh (T.meaning table) delay pages mark }
     {
         Station {
             delay,

@@ -29,7 +29,7 @@ fn note_page(cells: &mut [u32], film: u16, page: u16, slot: u32)
 pub fn note_slot<T: Timetable>(table: &T, cells: &mut [u32], film: u16, slot: u32)
     requires room { film ≤ length cells.old }
     ensures notes_line { cells.new
-        ≡ noted film slot cells.old (line (meaning table.now) slot) }
+        ≡ noted film slot cells.old (line (T.meaning table.now) slot) }
 {
     for place in 0..table.channels() {
         note_page(cells, film, table.page_at(place + 1, slot), slot);

@@ -11,10 +11,10 @@ const LONGEST: u32 = 4_096;
 
 // The greatest peak of all tune-ins, and the first slot that reaches it.
 fn greatest_peak<T: Timetable>(table: &T, delay: u16, film: u16, cells: &mut [u32]) -> (u16, u32)
-    requires short { (meaning table.now).period ≤ 4096 }
+    requires short { (T.meaning table.now).period ≤ 4096 }
     requires room { 2 * film ≤ length cells.old }
-    ensures surveyed { Airable (meaning table.now) delay film
-        → PeakOf (meaning table.now) delay film result.0 result.1 }
+    ensures surveyed { Airable (T.meaning table.now) delay film
+        → PeakOf (T.meaning table.now) delay film result.0 result.1 }
 {
     let period = table.period();
     let end = period + delay as u32 + film as u32;
@@ -43,7 +43,7 @@ pub fn survey_cells<T: Timetable>(
     cells: &mut [u32],
 ) -> Result<(u16, u32), SurveyRefusal>
     ensures surveys_or_refuses { Surveys
-        (meaning table.now) delay pages (length cells.old) result }
+        (T.meaning table.now) delay pages (length cells.old) result }
     ensures all_zero { cells.new ≡ replicate (length cells.old) 0 }
 {
     let guard = Scratch { cells };

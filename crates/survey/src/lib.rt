@@ -21,7 +21,7 @@ pub fn survey<T: Timetable>(
     scratch: &mut [u32],
 ) -> Result<(u16, u32), SurveyRefusal>
     ensures surveys_or_refuses { Surveys
-        (meaning table.now) delay pages (length scratch.old) result }
+        (T.meaning table.now) delay pages (length scratch.old) result }
     ensures all_zero { scratch.new ≡ replicate (length scratch.old) 0 }
     ensures stock_repeats { StockRepeats }
     ensures peak_is_enough { Enough }

@@ -15,8 +15,8 @@ const LAST_SLOT: u32 = 4_294_967_295;
 
 // Writes what is sent in a slot, channel by channel, into the first places of the list.
 fn write_line<T: Timetable>(table: &T, slot: u32, list: &mut [u16])
-    requires room { (meaning table.now).channels ≤ length list.old }
-    ensures line_in_front { list.new ≡ line (meaning table.now) slot ++ drop (meaning table.now).channels list.old }
+    requires room { (T.meaning table.now).channels ≤ length list.old }
+    ensures line_in_front { list.new ≡ line (T.meaning table.now) slot ++ drop (T.meaning table.now).channels list.old }
 {
     for place in 0..table.channels() {
         list[place as usize] = table.page_at(place + 1, slot);
@@ -26,7 +26,7 @@ fn write_line<T: Timetable>(table: &T, slot: u32, list: &mut [u16])
 impl<T: Timetable> Station<T> {
     // Goes on air with the clock at 0, where it is passed.
     pub fn air(&mut self) -> Result<(), Refusal>
-        ensures airs_or_refuses { Is (airs (seen (meaning self.old.table) self.old)) (by_unit goes_on_air result) (seen (meaning self.new.table) self.new) }
+        ensures airs_or_refuses { Is (airs (seen (T.meaning self.old.table) self.old)) (by_unit goes_on_air result) (seen (T.meaning self.new.table) self.new) }
     {
         match self.phase {
             Phase::Open => Err(Refusal::NotPassed),
@@ -40,8 +40,8 @@ impl<T: Timetable> Station<T> {
 
     // Sends the slot that the clock shows: writes it into the list, channel by channel, and answers it. The clock goes on by one.
     pub fn tick(&mut self, list: &mut [u16]) -> Result<u32, Refusal>
-        ensures ticks_or_refuses { Is (ticks (seen (meaning self.old.table) self.old) (length list.old)) (by_tick (meaning self.old.table).channels list.new result) (seen (meaning self.new.table) self.new) }
-        ensures list_after { list.new ≡ written (by_tick (meaning self.old.table).channels list.new result) list.old }
+        ensures ticks_or_refuses { Is (ticks (seen (T.meaning self.old.table) self.old) (length list.old)) (by_tick (T.meaning self.old.table).channels list.new result) (seen (T.meaning self.new.table) self.new) }
+        ensures list_after { list.new ≡ written (by_tick (T.meaning self.old.table).channels list.new result) list.old }
     {
         let Phase::OnAir(clock) = self.phase else {
             return Err(Refusal::NotOnAir);
@@ -63,7 +63,7 @@ impl<T: Timetable> Station<T> {
 
     // Goes off air; the station is open then.
     pub fn withdraw(&mut self) -> Result<(), Refusal>
-        ensures withdraws_or_refuses { Is (withdraws (seen (meaning self.old.table) self.old)) (by_unit withdrawn result) (seen (meaning self.new.table) self.new) }
+        ensures withdraws_or_refuses { Is (withdraws (seen (T.meaning self.old.table) self.old)) (by_unit withdrawn result) (seen (T.meaning self.new.table) self.new) }
     {
         match self.phase {
             Phase::OnAir(_) => {

@@ -15,7 +15,7 @@ use timetable::interface::Timetable;
 impl<T: Timetable> Station<T> {
     // Checks what is sent; the station is passed then, or stays as it was.
     pub fn check(&mut self, scratch: &mut [u32]) -> Result<(), Refusal>
-        ensures checks_or_refuses { Checks (seen (meaning self.old.table) self.old) (length scratch.old) (by_check result) (seen (meaning self.new.table) self.new) }
+        ensures checks_or_refuses { Checks (seen (T.meaning self.old.table) self.old) (length scratch.old) (by_check result) (seen (T.meaning self.new.table) self.new) }
         ensures scratch_zeroed { scratch.new ≡ replicate (length scratch.old) 0 }
     {
         let guard = Scratch { cells: scratch };
@@ -33,7 +33,7 @@ impl<T: Timetable> Station<T> {
 
     // Has the bag hold what starves, page by page with the first tune-in slot, and nothing else; the answer is how many pages these are.
     pub fn findings(&self, scratch: &mut [u32], bag: &mut Bag<Finding>) -> Result<usize, Refusal>
-        ensures finds_or_refuses { FindingsOf (seen (meaning self.now.table) self.now) (length scratch.old) (room bag.old) result bag.new }
+        ensures finds_or_refuses { FindingsOf (seen (T.meaning self.now.table) self.now) (length scratch.old) (room bag.old) result bag.new }
         ensures same_memory { SameMemory bag.old bag.new }
         ensures scratch_zeroed { scratch.new ≡ replicate (length scratch.old) 0 }
     {
@@ -46,7 +46,7 @@ impl<T: Timetable> Station<T> {
 
     // The greatest peak of a receiver with room for the whole film, over all tune-ins, and the first slot that reaches it.
     pub fn survey(&self, scratch: &mut [u32]) -> Result<(u16, u32), Refusal>
-        ensures surveys_or_refuses { SurveyTold (seen (meaning self.now.table) self.now) (length scratch.old) (by_survey result) }
+        ensures surveys_or_refuses { SurveyTold (seen (T.meaning self.now.table) self.now) (length scratch.old) (by_survey result) }
         ensures scratch_zeroed { scratch.new ≡ replicate (length scratch.old) 0 }
     {
         let guard = Scratch { cells: scratch };

@@ -16,7 +16,7 @@ const MOST_CLOSED: usize = 64;
 impl<T: Timetable> Station<T> {
     // Closes the entry of a channel in a slot of the period; the station is open then. The slip is its word for it.
     pub fn close(&mut self, channel: u8, slot: u32) -> Result<Slip, Refusal>
-        ensures closes_or_refuses { Is (closes (seen (meaning self.old.table) self.old) (record { channel = channel; slot = slot })) (by_close result) (seen (meaning self.new.table) self.new) }
+        ensures closes_or_refuses { Is (closes (seen (T.meaning self.old.table) self.old) (record { channel = channel; slot = slot })) (by_close result) (seen (T.meaning self.new.table) self.new) }
         ensures slip_unspent { IfOk result (λ slip. slip.spent ≡ false) }
     {
         if let Phase::OnAir(_) = self.phase {
@@ -44,7 +44,7 @@ impl<T: Timetable> Station<T> {
 
     // Opens the entry of a slip again; the station is open then. A slip that is refused is handed back.
     pub fn reopen(&mut self, slip: Slip) -> Result<(), (Refusal, Slip)>
-        ensures reopens_or_refuses { Is (reopens (seen (meaning self.old.table) self.old) slip.mark slip.entry) (by_reopen result) (seen (meaning self.new.table) self.new) }
+        ensures reopens_or_refuses { Is (reopens (seen (T.meaning self.old.table) self.old) slip.mark slip.entry) (by_reopen result) (seen (T.meaning self.new.table) self.new) }
         ensures hands_back { IfErr result (λ e. e.1 ≡ slip) }
     {
         if let Phase::OnAir(_) = self.phase {

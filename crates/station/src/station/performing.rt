@@ -106,7 +106,7 @@ fn bare(heap: Global, answer: Answer) -> Reply
 
 impl<T: Timetable> Station<T> {
     fn reply_to_close(&mut self, heap: Global, entry: Closure) -> Reply
-        ensures does { Does (seen (meaning self.old.table) self.old) (CloseCall entry) (replied result) (seen (meaning self.new.table) self.new) }
+        ensures does { Does (seen (T.meaning self.old.table) self.old) (CloseCall entry) (replied result) (seen (T.meaning self.new.table) self.new) }
     {
         let result = self.close(entry.channel, entry.slot);
         bare(heap, close_answer(result))
@@ -114,7 +114,7 @@ impl<T: Timetable> Station<T> {
 
     // The slip is made for the call.
     fn reply_to_reopen(&mut self, heap: Global, mark: u32, entry: Closure) -> Reply
-        ensures does { Does (seen (meaning self.old.table) self.old) (ReopenCall mark entry) (replied result) (seen (meaning self.new.table) self.new) }
+        ensures does { Does (seen (T.meaning self.old.table) self.old) (ReopenCall mark entry) (replied result) (seen (T.meaning self.new.table) self.new) }
     {
         let result = self.reopen(Slip {
             mark,
@@ -125,7 +125,7 @@ impl<T: Timetable> Station<T> {
     }
 
     fn reply_to_check(&mut self, heap: Global, scratch: Vec<u32>) -> Reply
-        ensures does { Does (seen (meaning self.old.table) self.old) (CheckCall scratch) (replied result) (seen (meaning self.new.table) self.new) }
+        ensures does { Does (seen (T.meaning self.old.table) self.old) (CheckCall scratch) (replied result) (seen (T.meaning self.new.table) self.new) }
     {
         let mut cells = scratch;
         let result = self.check(cells.as_mut_slice());
@@ -142,7 +142,7 @@ impl<T: Timetable> Station<T> {
         scratch: Vec<u32>,
         places: usize,
     ) -> Result<Reply, AllocError>
-        ensures does { IfOk result (λ reply. Does (seen (meaning self.now.table) self.now) (FindingsCall scratch places) (replied reply) (seen (meaning self.now.table) self.now)) }
+        ensures does { IfOk result (λ reply. Does (seen (T.meaning self.now.table) self.now) (FindingsCall scratch places) (replied reply) (seen (T.meaning self.now.table) self.now)) }
     {
         let mut cells = scratch;
         let mut records = Vec::from_elem(heap, Finding { page: 0, slot: 0 }, places)?;
@@ -156,7 +156,7 @@ impl<T: Timetable> Station<T> {
     }
 
     fn reply_to_survey(&self, heap: Global, scratch: Vec<u32>) -> Reply
-        ensures does { Does (seen (meaning self.now.table) self.now) (SurveyCall scratch) (replied result) (seen (meaning self.now.table) self.now) }
+        ensures does { Does (seen (T.meaning self.now.table) self.now) (SurveyCall scratch) (replied result) (seen (T.meaning self.now.table) self.now) }
     {
         let mut cells = scratch;
         let result = self.survey(cells.as_mut_slice());
@@ -168,14 +168,14 @@ impl<T: Timetable> Station<T> {
     }
 
     fn reply_to_air(&mut self, heap: Global) -> Reply
-        ensures does { Does (seen (meaning self.old.table) self.old) AirCall (replied result) (seen (meaning self.new.table) self.new) }
+        ensures does { Does (seen (T.meaning self.old.table) self.old) AirCall (replied result) (seen (T.meaning self.new.table) self.new) }
     {
         let result = self.air();
         bare(heap, unit_answer(result, Answer::OnAir))
     }
 
     fn reply_to_withdraw(&mut self, heap: Global) -> Reply
-        ensures does { Does (seen (meaning self.old.table) self.old) WithdrawCall (replied result) (seen (meaning self.new.table) self.new) }
+        ensures does { Does (seen (T.meaning self.old.table) self.old) WithdrawCall (replied result) (seen (T.meaning self.new.table) self.new) }
     {
         let result = self.withdraw();
         bare(heap, unit_answer(result, Answer::Withdrawn))
@@ -183,7 +183,7 @@ impl<T: Timetable> Station<T> {
 
     // The line that was sent is handed back by itself too.
     fn reply_to_tick(&mut self, heap: Global, list: Vec<u16>) -> Result<Reply, AllocError>
-        ensures does { MatchResult result (λ reply. Does (seen (meaning self.old.table) self.old) (TickCall list) (replied reply) (seen (meaning self.new.table) self.new)) (λ _. seen (meaning self.new.table) self.new ≡ seen (meaning self.old.table) self.old) }
+        ensures does { MatchResult result (λ reply. Does (seen (T.meaning self.old.table) self.old) (TickCall list) (replied reply) (seen (T.meaning self.new.table) self.new)) (λ _. seen (T.meaning self.new.table) self.new ≡ seen (T.meaning self.old.table) self.old) }
     {
         let mut places = list;
         let line = Vec::from_elem(heap, 0u16, self.table.channels() as usize)?;
@@ -197,7 +197,7 @@ impl<T: Timetable> Station<T> {
 
     // One call, on this station. Without memory for the reply the station stays as it was.
     pub fn perform(&mut self, heap: Global, call: Call) -> Result<Reply, AllocError>
-        ensures does_or_stays { MatchResult result (λ reply. Does (seen (meaning self.old.table) self.old) call (replied reply) (seen (meaning self.new.table) self.new)) (λ _. seen (meaning self.new.table) self.new ≡ seen (meaning self.old.table) self.old) }
+        ensures does_or_stays { MatchResult result (λ reply. Does (seen (T.meaning self.old.table) self.old) call (replied reply) (seen (T.meaning self.new.table) self.new)) (λ _. seen (T.meaning self.new.table) self.new ≡ seen (T.meaning self.old.table) self.old) }
     {
         match call {
             Call::Close(entry) => Ok(self.reply_to_close(heap, entry)),

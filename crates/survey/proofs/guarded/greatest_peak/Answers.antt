@@ -11,7 +11,7 @@ pub loop-after-preserved : goal.loop-after-preserved
 loop-after-preserved g c = (
   omega arith,
   comings_step (line (g.T.Timetable.meaning c.args.table.now)) c.args.film c.loop-after.after (c.loop-after.after - 1) (c.period-period.result + c.args.delay + c.args.film)
-      c.loop-after.cells c.note-slot.new.cells (omega arith) (omega arith) (omega arith) c.note-slot.ensures.notes_line c.loop-after.invariant.1,
+      c.loop-after.cells c.note_slot.new.cells (omega arith) (omega arith) (omega arith) c.note_slot.ensures.notes_line c.loop-after.invariant.1,
 )
 
 pub loop-slot-init : goal.loop-slot-init
@@ -29,15 +29,15 @@ loop-slot-preserved-then-peak-best g c =
     let T = c.loop-slot.slot in
     let P = c.period-period.result in
     let end = P + c.args.delay + c.args.film in
-    let seen : Comings (line M) c.args.film (T - 1) end c.note-slot-in-loop-slot.new.cells =
-    comings_step (line M) c.args.film T (T - 1) end c.loop-slot.cells c.note-slot-in-loop-slot.new.cells (omega arith) (omega arith) (omega arith) c.note-slot-in-loop-slot.ensures.notes_line c.loop-slot.invariant.0 in
-    let is : Airable M c.args.delay c.args.film → c.peak-from-peak.result ≡ f (T - 1) = λ ok.
-    turn (line M) c.args.delay c.args.film P T c.note-slot-in-loop-slot.new.cells c.peak-from-peak.result
-    ok.in_range.delay.0 ok.in_range.delay.1 ok.in_range.pages.0 ok.in_range.pages.1 (sound_serves M c.args.delay c.args.film ok.sound) (omega arith) (omega arith) c.peak-from-peak.ensures.by_comings seen in (
-      comings_kept (line M) c.args.film (T - 1) end c.note-slot-in-loop-slot.new.cells c.peak-from-peak.new.cells c.peak-from-peak.ensures.kept seen,
+    let seen : Comings (line M) c.args.film (T - 1) end c.note_slot-in-loop-slot.new.cells =
+    comings_step (line M) c.args.film T (T - 1) end c.loop-slot.cells c.note_slot-in-loop-slot.new.cells (omega arith) (omega arith) (omega arith) c.note_slot-in-loop-slot.ensures.notes_line c.loop-slot.invariant.0 in
+    let is : Airable M c.args.delay c.args.film → c.peak_from-peak.result ≡ f (T - 1) = λ ok.
+    turn (line M) c.args.delay c.args.film P T c.note_slot-in-loop-slot.new.cells c.peak_from-peak.result
+    ok.in_range.delay.0 ok.in_range.delay.1 ok.in_range.pages.0 ok.in_range.pages.1 (sound_serves M c.args.delay c.args.film ok.sound) (omega arith) (omega arith) c.peak_from-peak.ensures.by_comings seen in (
+      comings_kept (line M) c.args.film (T - 1) end c.note_slot-in-loop-slot.new.cells c.peak_from-peak.new.cells c.peak_from-peak.ensures.kept seen,
       (λ ok. (
         (λ h. absurd (omega arith)),
-        (λ h. peak_takes f T (T - 1) P c.loop-slot.best c.loop-slot.first c.peak-from-peak.result
+        (λ h. peak_takes f T (T - 1) P c.loop-slot.best c.loop-slot.first c.peak_from-peak.result
             (omega arith) h (is ok) (omega arith) (c.loop-slot.invariant.1 ok).1),
       )),
     )
@@ -49,15 +49,15 @@ loop-slot-preserved g c =
     let T = c.loop-slot.slot in
     let P = c.period-period.result in
     let end = P + c.args.delay + c.args.film in
-    let seen : Comings (line M) c.args.film (T - 1) end c.note-slot-in-loop-slot.new.cells =
-    comings_step (line M) c.args.film T (T - 1) end c.loop-slot.cells c.note-slot-in-loop-slot.new.cells (omega arith) (omega arith) (omega arith) c.note-slot-in-loop-slot.ensures.notes_line c.loop-slot.invariant.0 in
-    let is : Airable M c.args.delay c.args.film → c.peak-from-peak.result ≡ f (T - 1) = λ ok.
-    turn (line M) c.args.delay c.args.film P T c.note-slot-in-loop-slot.new.cells c.peak-from-peak.result
-    ok.in_range.delay.0 ok.in_range.delay.1 ok.in_range.pages.0 ok.in_range.pages.1 (sound_serves M c.args.delay c.args.film ok.sound) (omega arith) (omega arith) c.peak-from-peak.ensures.by_comings seen in (
-      comings_kept (line M) c.args.film (T - 1) end c.note-slot-in-loop-slot.new.cells c.peak-from-peak.new.cells c.peak-from-peak.ensures.kept seen,
+    let seen : Comings (line M) c.args.film (T - 1) end c.note_slot-in-loop-slot.new.cells =
+    comings_step (line M) c.args.film T (T - 1) end c.loop-slot.cells c.note_slot-in-loop-slot.new.cells (omega arith) (omega arith) (omega arith) c.note_slot-in-loop-slot.ensures.notes_line c.loop-slot.invariant.0 in
+    let is : Airable M c.args.delay c.args.film → c.peak_from-peak.result ≡ f (T - 1) = λ ok.
+    turn (line M) c.args.delay c.args.film P T c.note_slot-in-loop-slot.new.cells c.peak_from-peak.result
+    ok.in_range.delay.0 ok.in_range.delay.1 ok.in_range.pages.0 ok.in_range.pages.1 (sound_serves M c.args.delay c.args.film ok.sound) (omega arith) (omega arith) c.peak_from-peak.ensures.by_comings seen in (
+      comings_kept (line M) c.args.film (T - 1) end c.note_slot-in-loop-slot.new.cells c.peak_from-peak.new.cells c.peak_from-peak.ensures.kept seen,
       (λ ok. (
         (λ h. absurd (omega arith)),
-        (λ h. peak_keeps f T (T - 1) P c.loop-slot.best c.loop-slot.first c.peak-from-peak.result
+        (λ h. peak_keeps f T (T - 1) P c.loop-slot.best c.loop-slot.first c.peak_from-peak.result
             (omega arith) h (is ok) (omega arith) (c.loop-slot.invariant.1 ok).0 (c.loop-slot.invariant.1 ok).1),
       )),
     )
