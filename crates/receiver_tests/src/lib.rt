@@ -31,8 +31,8 @@ mod tests {
         let mut store = [9; 5];
         let from_0 = feed(heap, 4, 5, 4, &mut store, nine_lines(heap, 0)?.as_slice())?;
         assert!(rt; from_0.stop == Stop::FilmWhole && from_0.peak == 4);
-        assert!(rt; from_0.shows.as_slice() == [1, 2, 3, 4, 5]);
-        assert!(rt; from_0.stocks.as_slice() == [1, 2, 3, 4, 4, 4, 3, 2, 1]);
+        assert!(rt; from_0.shows.as_slice() == [1, 2, 3, 4, 5].as_slice());
+        assert!(rt; from_0.stocks.as_slice() == [1, 2, 3, 4, 4, 4, 3, 2, 1].as_slice());
         let from_1 = feed(heap, 4, 5, 4, &mut store, nine_lines(heap, 1)?.as_slice())?;
         assert!(rt; from_1.stop == Stop::Refused(Refusal::Full) && from_1.peak == 4);
         assert!(rt; from_1.shows.len() == 0 && from_1.stocks.len() == 4);
