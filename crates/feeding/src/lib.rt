@@ -1,4 +1,6 @@
 // Feeding: a receiver that is tuned and given one line of pages a slot.
+#![tactic(auto)]
+
 ghost use Rattle.feeding.specs.Laws.{ToldByStock, WholeRoom, EnoughRoom, StocksAreArrivals, LessRoom, PeakIsTop};
 ghost use Rattle.feeding.specs.Viewings.{Views};
 

@@ -1,3 +1,5 @@
+#![tactic(auto)]
+
 // Tests of receivers, feedings and surveys, on a loop of five pages: one channel, delay 4, period 12.
 #[cfg(test)]
 mod tests {

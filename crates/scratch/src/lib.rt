@@ -1,4 +1,6 @@
 // Working memory that the caller lends, and gets back zeroed.
+#![tactic(auto)]
+
 ghost use Rattle.std.specs.Prelude.{◌≡◌, length, replicate};
 
 // Sets every cell to 0.

@@ -1,4 +1,6 @@
 // The survey of a timetable: how much a receiver has to hold at most, wherever it tunes in.
+#![tactic(auto)]
+
 ghost use Rattle.std.specs.Prelude.{◌≡◌, length, replicate};
 ghost use Rattle.survey.specs.Guarantees.{StockRepeats, Enough, Least};
 ghost use Rattle.survey.specs.Surveys.{Surveys};
