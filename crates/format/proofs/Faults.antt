@@ -1,10 +1,9 @@
 -- From the parts of a file to the answer on the whole of it.
-use Rattle.std.proofs.Common.{◌≡◌, ℕ, ◌+◌, ◌<◌, ◌≤◌, Bool, true, false, cond, ltb, ◌⊎◌, List, [], ◌∷◌, ◌++◌, map, length, sym, refl, ap, ◌∙◌, subst, inl, inr, ⊎_elim, append_assoc, append-nil, arith, length-append, le-ltb}
+use Rattle.std.proofs.Common.{◌≡◌, ℕ, ◌+◌, ◌<◌, ◌≤◌, false, cond, ltb, List, [], ◌∷◌, ◌++◌, map, length, sym, refl, ap, ◌∙◌, subst, inr, ⊎_elim, append_assoc, arith, length-append, le-ltb}
 use Rattle.std.proofs.lemmas.List.{length-map}
 use Rattle.std.proofs.lemmas.Bool.{cases_Bool}
-use Rattle.records.specs.Faults.{told}
 use Rattle.records.specs.Places.{Spans, Opens, Cuts}
-use Rattle.records.proofs.Spanning.{spans_none, spans_join, spans_within, spans_opens, spans_all}
+use Rattle.records.proofs.Spanning.{spans_none, spans_join, spans_within, spans_opens}
 use Rattle.records.specs.declared.fault.Fault.{Fault}
 use Rattle.records.specs.declared.fault.Fault.TheVariants.{CutShort, UnknownKind, OutOfPlace, AfterEnd, TooLong, Memory}
 use Rattle.records.specs.declared.kinds.Film.{Film}
@@ -14,11 +13,11 @@ use Rattle.records.specs.declared.kinds.Node.{Node}
 use Rattle.records.specs.declared.kinds.Node.TheVariants.{Leaf, Inner}
 use Rattle.records.specs.declared.kinds.Closure.{Closure}
 use Rattle.format.specs.Items.{Part, channel, row, node, Item, film, part, closure, end, kind, size, bytes}
-use Rattle.format.specs.Format.{Sort, pagoda, rows, tree, sort, most, Alike, Sheet, Lawful, records, encoded, Follows, Reached, Ends, Misplaced, Fits, Stands, Refused, too_long, cut_short, unknown_kind, out_of_place, after_end, no_memory}
-use Rattle.format.specs.Runs.{Run, Goes, Breaks, RunFault}
-use Rattle.format.specs.Steps.{Faulty, PartsAt, AfterFilm}
-use Rattle.format.proofs.Lists.{map_map, map_append, encoded_append, spans_items}
-use Rattle.format.proofs.Stages.{Stage, start, opened, listing, closing, over, bad, role, lists, closes, place, run, same, same_eq, same_role, stage_after, listing_stage, reached_stage, stuck}
+use Rattle.format.specs.Format.{Sort, pagoda, rows, tree, sort, most, Alike, Sheet, Lawful, records, encoded, Follows, Reached, Misplaced, Stands, cut_short, out_of_place, no_memory}
+use Rattle.format.specs.Runs.{Run, RunFault}
+use Rattle.format.specs.Steps.{Faulty, PartsAt}
+use Rattle.format.proofs.Lists.{map_map, map_append, spans_items}
+use Rattle.format.proofs.Stages.{Stage, start, opened, listing, closing, bad, role, closes, place, run, same, same_eq, same_role, stage_after, listing_stage, reached_stage, stuck}
 
 long_of : (x : Item) → length (bytes x) ≡ 1 + size x
 long_of (film x) = refl

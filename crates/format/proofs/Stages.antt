@@ -1,5 +1,5 @@
 -- How far a list of records has come towards a plan: an automaton over what a record is for.
-use Rattle.std.proofs.Common.{◌≡◌, ℕ, zero, suc, ◌+◌, ◌<◌, ◌≤◌, Bool, true, false, cond, eqb, ltb, List, [], ◌∷◌, ◌++◌, map, length, sym, refl, ap, ◌∙◌, append_assoc, arith, lt-ltb}
+use Rattle.std.proofs.Common.{◌≡◌, ℕ, ◌+◌, ◌<◌, ◌≤◌, Bool, true, false, cond, eqb, ltb, List, [], ◌∷◌, ◌++◌, map, length, sym, refl, ap, ◌∙◌, append_assoc, arith, lt-ltb}
 use Rattle.records.specs.declared.kinds.Node.TheVariants.{Leaf, Inner}
 use Rattle.records.specs.declared.kinds.Closure.{Closure}
 use Rattle.format.specs.Items.{Part, channel, row, node, Item, film, part, closure, end, kind}

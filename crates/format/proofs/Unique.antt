@@ -8,7 +8,7 @@ use Rattle.records.specs.declared.fault.Fault.TheVariants.{CutShort, UnknownKind
 use Rattle.format.specs.declared.plan.Plan.{Plan}
 use Rattle.format.specs.Items.{Item, kind, size, bytes}
 use Rattle.format.specs.Format.{Sheet, Lawful, records, encoded, Follows, Reached, Ends, NoKind, Misplaced, Refused, too_long, cut_short, unknown_kind, out_of_place, after_end, no_memory}
-use Rattle.format.specs.Answers.{sheet, Reads, Answers, Agree}
+use Rattle.format.specs.Answers.{sheet, Answers, Agree}
 use Rattle.format.proofs.Stages.{over, lawful_over, stuck}
 use Rattle.format.proofs.Codes.{body_long, same_size, Longer, compared, same_sheet, lawful_short}
 

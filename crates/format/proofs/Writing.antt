@@ -1,5 +1,5 @@
 -- From the bytes of a plan to the answer on writing it, and that reading and writing undo each other.
-use Rattle.std.proofs.Common.{◌≡◌, ℕ, ◌<◌, ◌≤◌, ◌⊎◌, List, [], ◌∷◌, ◌++◌, length, take, drop, Some, None, Ok, Err, Result, sym, refl, ap, ◌∙◌, subst, inl, inr, ⊎_elim, append-nil, arith, length-append, MatchResult}
+use Rattle.std.proofs.Common.{◌≡◌, ℕ, ◌<◌, ◌⊎◌, List, [], ◌∷◌, ◌++◌, length, take, drop, Some, None, Ok, Err, Result, sym, refl, ap, ◌∙◌, subst, inl, inr, ⊎_elim, append-nil, arith, length-append, MatchResult}
 use Rattle.std.proofs.lemmas.List.{take_at}
 use Rattle.records.specs.Faults.{told}
 use Rattle.records.specs.declared.fault.Fault.{Fault}
@@ -9,7 +9,7 @@ use Rattle.format.specs.declared.fault.WriteFault.TheVariants.{Unfit, NoRoom}
 use Rattle.format.specs.declared.plan.Plan.{Plan}
 use Rattle.format.specs.Items as items
 use Rattle.format.specs.Items.{Item}
-use Rattle.format.specs.Format.{Lawful, records, encoded, Refused, too_long}
+use Rattle.format.specs.Format.{Lawful, encoded, too_long}
 use Rattle.format.specs.Answers.{sheet, file_of, Reads, Answers}
 use Rattle.format.specs.Runs.{Unappended}
 use Rattle.format.specs.Writing.{PutAll, told_write, Unwritten, unfit, no_room, no_memory, Wrote, Written, ReadsBack, WritesBack}

@@ -1,5 +1,5 @@
 -- Steps of reading a plan file.
-use Rattle.std.specs.Prelude.{◌≡◌, ℕ, ◌<◌, ◌≤◌, List, [], ◌∷◌, map, length, Some, None, Option, ◌≢◌}
+use Rattle.std.specs.Prelude.{◌≡◌, ℕ, ◌<◌, ◌≤◌, List, map, length, Some, None, Option, ◌≢◌}
 use Rattle.records.specs.Faults.{told}
 use Rattle.records.specs.Places.{Spans, Opens}
 use Rattle.records.specs.declared.fault.Fault.{Fault}

@@ -1,4 +1,6 @@
 // Reading plan files, and lists of records in them.
+#![tactic(auto)]
+
 pub mod limits;
 pub mod listed;
 pub mod reader;

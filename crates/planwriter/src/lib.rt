@@ -1,2 +1,4 @@
 // Writing plan files.
+#![tactic(auto)]
+
 pub mod writer;

@@ -1,4 +1,4 @@
-use Rattle.std.proofs.Common.{sym, ◌∙◌, subst, inl, inr, arith}
+use Rattle.std.proofs.Common.{sym, subst, inl, inr, arith}
 use Rattle.records.specs.Places.{Opens}
 use Rattle.format.specs.Format.{cut_short, unknown_kind, out_of_place}
 use Rattle.planfile.proofs.reader.misfit.Goals as goal

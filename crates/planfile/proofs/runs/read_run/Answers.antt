@@ -10,8 +10,8 @@ use Rattle.planfile.proofs.runs.read_run.Given as given
 use Rattle.planfile.proofs.runs.read_run.Goals as goal
 
 -- the record that was found at the place reached
-found : (g : given.Over) (c : goal.In-ok-push g) → Spans c.args.bytes.now c.loop-all.at c.in-Some.next (bytes (g.L.Listed.item c.in-Some.one))
-found g c = stood_some g.L.Listed.item c.args.bytes.now c.loop-all.at c.in-ok-one.field-0 c.in-Some.one c.in-Some.next c.in-ok-one.ensures.finds c.in-Some.is
+found : (g : given.Over) (c : goal.In_ok-push g) → Spans c.args.bytes.now c.loop-all.at c.in-Some.next (bytes (g.L.Listed.item c.in-Some.one))
+found g c = stood_some g.L.Listed.item c.args.bytes.now c.loop-all.at c.in_ok-one.field-0 c.in-Some.one c.in-Some.next c.in_ok-one.ensures.finds c.in-Some.is
 
 pub loop-all-smaller : goal.loop-all-smaller
 loop-all-smaller g c =
@@ -22,7 +22,7 @@ loop-all-smaller g c =
 pub loop-all-preserved : goal.loop-all-preserved
 loop-all-preserved g c =
     let item = g.L.Listed.item in
-    let was = chosen _ _ _ _ c.push.ensures.items (ap is_ok c.in-ok-push.was) in (
+    let was = chosen _ _ _ _ c.push.ensures.items (ap is_ok c.in_ok-push.was) in (
       subst (λ l. Spans c.args.bytes.now c.args.start c.in-Some.next (encoded (map item l))) (sym was) (spans_push item (vec_items c.loop-all.all) c.in-Some.one c.loop-all.invariant.0 (found g c)),
       search rules,
     )

@@ -5,9 +5,9 @@ pub returns : goal.returns
 returns c =
     let p = c.args.plan.now in
     let was = c.args.out.now in
-    let w = c.put-plan.ensures.writes in
+    let w = c.put_plan.ensures.writes in
     record {
       writes = w;
-      reads_back = reads_back p was _ c.put-plan.result w;
-      writes_back = writes_back p was _ c.put-plan.result w;
+      reads_back = reads_back p was _ c.put_plan.result w;
+      writes_back = writes_back p was _ c.put_plan.result w;
     }

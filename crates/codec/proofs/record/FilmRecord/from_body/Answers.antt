@@ -6,7 +6,7 @@ use Rattle.codec.proofs.record.FilmRecord.from_body.Goals as goal
 pub returns : goal.returns
 returns c =
     let b = c.args.bytes.now in
-    let t = c.type-inv.bytes in
-    let delay = two_from _ _ _ (t 1).fits c.from-be-bytes-delay.ensures in
-    let pages = two_from _ _ _ (t 3).fits c.from-be-bytes-pages.ensures in
+    let t = c.type_inv.bytes in
+    let delay = two_from _ _ _ (t 1).fits c.from_be_bytes-delay.ensures in
+    let pages = two_from _ _ _ (t 3).fits c.from_be_bytes-pages.ensures in
     record { has_body = (λ i. delay i ++ (pages i ++ (get_or b 4 0 ∷ []))) ∙ spelled b 5 (omega (arith, ltb-true, ltb-false)) }
