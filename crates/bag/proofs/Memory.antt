@@ -3,11 +3,12 @@ use Rattle.std.proofs.Common.{◌≤◌, length, refl, ◌∙◌, arith}
 use Rattle.std.proofs.lemmas.List.{length-take}
 use Rattle.bag.specs.Bags.{held, room, SameMemory}
 use Rattle.bag.specs.declared.bag.Bag.{Bag}
+use Rattle.bag.specs.declared.ranked.Ranked.{Ghosts}
 
-pub same_memory_refl : {X : Type 0} (a : Bag X) → SameMemory a a
+pub same_memory_refl : {X : Type 0} {g : Ghosts X} (a : Bag X g) → SameMemory a a
 same_memory_refl a = record { same_room = refl; same_zero = refl; same_lender = refl }
 
-pub same_memory_trans : {X : Type 0} (a b c : Bag X) → SameMemory a b → SameMemory b c → SameMemory a c
+pub same_memory_trans : {X : Type 0} {g : Ghosts X} (a b c : Bag X g) → SameMemory a b → SameMemory b c → SameMemory a c
 same_memory_trans a b c h i = record {
   same_room = i.same_room ∙ h.same_room;
   same_zero = i.same_zero ∙ h.same_zero;
@@ -15,5 +16,5 @@ same_memory_trans a b c h i = record {
 }
 
 -- no more records are held than there are places
-pub held_within : {X : Type 0} (b : Bag X) → length (held b) ≤ room b
+pub held_within : {X : Type 0} {g : Ghosts X} (b : Bag X g) → length (held b) ≤ room b
 held_within b = omega (arith, length-take b.count b.places.now)
