@@ -4,6 +4,7 @@ use Rattle.std.specs.List.Sorted.{IsPermutation}
 use Rattle.timetable.specs.Meaning.{Meaning}
 use Rattle.timetable.specs.Windows.{InRange, FirstSlot}
 use Rattle.bag.specs.declared.bag.Bag.{Bag}
+use Rattle.bag.specs.declared.ranked.Ranked.{Ghosts}
 use Rattle.bag.specs.Bags.{held, room, Emptied}
 use Rattle.bag.specs.declared.finding.Finding.{Finding}
 use Rattle.checker.specs.declared.refusal.FindingsRefusal.{FindingsRefusal}
@@ -27,14 +28,14 @@ pub record Findings (X : Meaning) (m n : ℕ) (xs : List Finding) : Type 0 where
   pub ascending : Ascending xs
 
 -- a bag of so many places takes the findings, or is too small for them
-pub record Gathers (X : Meaning) (m n : ℕ) (count : ℕ) (bag : Bag Finding) : Type 0 where
+pub record Gathers (X : Meaning) (m n : ℕ) (count : ℕ) {o : Ghosts Finding} (bag : Bag Finding o) : Type 0 where
   pub findings : List Finding
   pub exact : Findings X m n findings
   pub gathered : IsPermutation findings (held bag)
   pub counted : count ≡ length findings
 
 -- what is answered of the timetable X, with so many cells of scratch, and what the bag then holds
-abbrev pub Finds : Meaning → ℕ → ℕ → ℕ → Result ℕ FindingsRefusal → Bag Finding → Type 0
+abbrev pub Finds : {o : Ghosts Finding} → Meaning → ℕ → ℕ → ℕ → Result ℕ FindingsRefusal → Bag Finding o → Type 0
 Finds X m n cells (Ok count) bag = InRange X m n × (2 * n ≤ cells) × Gathers X m n count bag
 Finds X m n cells (Err OutOfRange) bag = (InRange X m n → ⊥) × Emptied bag
 Finds X m n cells (Err ShortScratch) bag = InRange X m n × (cells < 2 * n) × Emptied bag

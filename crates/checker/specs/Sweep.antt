@@ -3,6 +3,7 @@ use Rattle.std.specs.Prelude.{◌≡◌, ℕ, zero, suc, ◌+◌, ◌-◌, ◌<�
 use Rattle.std.specs.List.Sorted.{IsPermutation}
 use Rattle.bag.specs.Bags.{held, room, Same}
 use Rattle.bag.specs.declared.bag.Bag.{Bag}
+use Rattle.bag.specs.declared.ranked.Ranked.{Ghosts}
 use Rattle.bag.specs.declared.bag.Full.{Full}
 use Rattle.bag.specs.declared.finding.Finding.{Finding}
 use Rattle.timetable.specs.Meaning.{Meaning}
@@ -60,10 +61,10 @@ gathered m n end xs zero = []
 gathered m n end xs (suc j) = gathered m n end xs j ++ finding (j + 1) (missing (slice_index xs j) (slice_index xs (n + j)) (m + j) end)
 
 -- a bag after one more finding, or a full one as it was
-abbrev pub Noted : ℕ → ℕ → Bag Finding → Bag Finding → Result (Unit {0}) Full → Type 0
+abbrev pub Noted : {o : Ghosts Finding} → ℕ → ℕ → Bag Finding o → Bag Finding o → Result (Unit {0}) Full → Type 0
 Noted page found a b (Ok _) = IsPermutation (held a ++ finding page found) (held b)
 Noted page found a b (Err _) = (0 < found) × (length (held a) ≡ room a) × Same a b
 
 -- a bag that was empty after all findings, or one that is too small for them
-abbrev pub Filled : List Finding → Bag Finding → Result (Unit {0}) Full → Type 0
+abbrev pub Filled : {o : Ghosts Finding} → List Finding → Bag Finding o → Result (Unit {0}) Full → Type 0
 Filled xs b r = MatchResult r (λ _. IsPermutation xs (held b)) (λ _. room b < length xs)

@@ -7,15 +7,15 @@ use Rattle.checker.specs.Judged.{out_of_range, short_scratch, stray, starving, p
 use Rattle.checker.proofs.Ending.{no_stray, no_starving, lowest_starves}
 use Rattle.checker.proofs.checking.check.Goals as goal
 
-pub returns-then-not-in-range : goal.returns-then-not-in-range
-returns-then-not-in-range g c = record {
-  judges = out_of_range (λ ok. both_ways _ c.if-not-in-range.true (c.in-range.ensures.decides_range.1 ok));
+pub returns-then-not-in_range : goal.returns-then-not-in_range
+returns-then-not-in_range g c = record {
+  judges = out_of_range (λ ok. both_ways _ c.if-not-in_range.true (c.in_range.ensures.decides_range.1 ok));
   scratch_zeroed = search rules;
 }
 
 pub returns-then-guard-pages : goal.returns-then-guard-pages
 returns-then-guard-pages g c = record {
-  judges = short_scratch (c.in-range.ensures.decides_range.0 c.if-not-in-range.false) c.if-guard-pages.true;
+  judges = short_scratch (c.in_range.ensures.decides_range.0 c.if-not-in_range.false) c.if-guard-pages.true;
   scratch_zeroed = search rules;
 }
 
@@ -23,14 +23,14 @@ pub sweep-requires : goal.sweep-requires
 sweep-requires g c =
     let long : length c.zero.new.cells ≡ length c.args.scratch.now = ap length c.zero.ensures.all_zero ∙ length-replicate _ _ in
     record {
-      in_range = c.in-range.ensures.decides_range.0 c.if-not-in-range.false;
+      in_range = c.in_range.ensures.decides_range.0 c.if-not-in_range.false;
       two_a_page = omega arith;
       blank = λ j h. ap (λ xs. get_or xs j 0) c.zero.ensures.all_zero ∙ get_or-replicate _ j 0 0 (omega arith);
     }
 
 pub returns-in-Err : goal.returns-in-Err
 returns-in-Err g c = record {
-  judges = stray _ _ _ (c.in-range.ensures.decides_range.0 c.if-not-in-range.false) c.if-guard-pages.false c.in-Err.ensures.clean_or_stray;
+  judges = stray _ _ _ (c.in_range.ensures.decides_range.0 c.if-not-in_range.false) c.if-guard-pages.false c.in-Err.ensures.clean_or_stray;
   scratch_zeroed = search rules;
 }
 
@@ -39,8 +39,8 @@ returns-in-Some g c =
     let X = g.T.Timetable.meaning c.args.table.now in
     let L = g.T.Timetable.lawful c.args.table.now in
     let m = c.args.delay in let n = c.args.pages in
-    let ok : InRange X m n = c.in-range.ensures.decides_range.0 c.if-not-in-range.false in
-    let swept = c.in-default.ensures.clean_or_stray in
+    let ok : InRange X m n = c.in_range.ensures.decides_range.0 c.if-not-in_range.false in
+    let swept = c.in_default.ensures.clean_or_stray in
     let xs = c.sweep.new.scratch in
     let f = c.in-Some.finding in
     let low = subst (λ p. Lowest m n (p + m + n - 2) xs f.page f.slot) c.period.ensures.answers_period c.in-Some.ensures.lowest_or_none in
@@ -56,8 +56,8 @@ returns g c =
     let X = g.T.Timetable.meaning c.args.table.now in
     let L = g.T.Timetable.lawful c.args.table.now in
     let m = c.args.delay in let n = c.args.pages in
-    let ok : InRange X m n = c.in-range.ensures.decides_range.0 c.if-not-in-range.false in
-    let swept = c.in-default.ensures.clean_or_stray in
+    let ok : InRange X m n = c.in_range.ensures.decides_range.0 c.if-not-in_range.false in
+    let swept = c.in_default.ensures.clean_or_stray in
     let xs = c.sweep.new.scratch in
     let none = subst (λ p. (j : ℕ) → j < n → missing (get_or xs j 0) (get_or xs (n + j) 0) (m + j) (p + m + n - 2) ≡ 0) c.period.ensures.answers_period c.in-None.ensures.lowest_or_none in
     record {

@@ -5,7 +5,7 @@ use Rattle.checker.proofs.sweep.sweep_all.Goals as goal
 
 pub loop-channel-preserved : goal.loop-channel-preserved
 loop-channel-preserved g c =
-    heard_more _ _ _ _ _ c.page-at.result c.loop-channel.scratch _ c.loop-channel.auto.channel (omega arith) c.page-at.ensures.answers_page (omega arith) c.settle.ensures.page_heard c.loop-channel.invariant
+    heard_more _ _ _ _ _ c.page_at.result c.loop-channel.scratch _ c.loop-channel.auto.channel (omega arith) c.page_at.ensures.answers_page (omega arith) c.settle.ensures.page_heard c.loop-channel.invariant
 
 pub loop-slot-preserved : goal.loop-slot-preserved
 loop-slot-preserved g c =
