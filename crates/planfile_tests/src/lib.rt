@@ -1,4 +1,6 @@
 // Tests of plan files: what is written, what is left alone, and every refusal of writing.
+#![tactic(auto)]
+
 #[cfg(test)]
 mod tests {
     use format::fault::*;
