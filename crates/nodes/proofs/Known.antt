@@ -1,6 +1,6 @@
 -- The periods of the nodes, from the last to the first.
 use Rattle.std.proofs.Common.{◌≡◌, ℕ, zero, suc, ◌+◌, ◌-◌, ◌*◌, ◌<◌, ◌≤◌, List, [], ◌∷◌, length, get_or, take, drop, set, sym, refl, ap, ◌∙◌, subst, add-zero, add-one, arith}
-use Rattle.std.proofs.lemmas.List.Elements.{All-take, All-drop}
+use Rattle.std.proofs.lemmas.List.Elements.{All-nil, All-cons, All-take, All-drop}
 use Rattle.std.proofs.lemmas.List.{drop_all, drop-drop, drop_more, drop-set, get_or-drop}
 use Rattle.records.specs.declared.kinds.Node.{Node}
 use Rattle.records.specs.declared.kinds.Node.TheVariants as node
@@ -10,6 +10,7 @@ use Rattle.nodes.specs.Answers.{Right}
 use Rattle.nodes.specs.Finding.{AllPeriods, ChildrenKnown, KnownFrom, period_in}
 use Rattle.nodes.specs.Periods.{period_of, periods_from, node_periods}
 use Rattle.nodes.specs.Turns.{node_at}
+use Rattle.nodes.proofs.Together.{IsPeriod}
 
 -- the periods from a later node on
 pub periods_later : (x y : ℕ) (nodes : List Node) → drop x (periods_from y nodes) ≡ periods_from (y + x) (drop x nodes)
@@ -48,15 +49,15 @@ children_known x (node.Leaf l) ps right all = tt
 children_known x (node.Inner i) ps right all = (
   right.0,
   right.2,
-  All-take _ i.degree (drop i.first_child ps)
-      (subst AllPeriods (later ps i.first_child x right.1) (All-drop _ (i.first_child - suc x) (drop (x + 1) ps) all)),
+  All-take IsPeriod i.degree (drop i.first_child ps)
+      (subst AllPeriods (later ps i.first_child x right.1) (All-drop IsPeriod (i.first_child - suc x) (drop (x + 1) ps) all)),
 )
 
 -- past the last node
 pub known_none : (nodes : List Node) (ps : List ℕ) (x : ℕ) → length nodes ≤ x → length ps ≤ x → KnownFrom nodes ps x
 known_none nodes ps x h i = record {
   known = rw (drop_all x nodes h, drop_all x ps i);
-  periods = rw (drop_all x ps i) tt;
+  periods = rw (drop_all x ps i) (All-nil IsPeriod);
 }
 
 -- node x, where the periods are known from the next node on
@@ -85,5 +86,5 @@ module _ (nodes : List Node) (ps : List ℕ) (x next : ℕ) (one_each : length p
             written ∙ ap (λ (q : ℕ). q ∷ drop (x + 1) ps) own
             ∙ ap (λ (qs : List ℕ). period_of x (node_at nodes x) qs ∷ qs) known.known
             ∙ sym (periods_here nodes x inside);
-        periods = rw written ((h.2, h.1), known.periods);
+        periods = rw written (All-cons IsPeriod p (drop (x + 1) ps) (h.2, h.1) known.periods);
       }

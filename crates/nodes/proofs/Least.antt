@@ -2,7 +2,6 @@
 use Rattle.std.proofs.Common.{◌≡◌, ℕ, ◌+◌, ◌-◌, ◌<◌, List, length, get_or, take, drop, Some, Ok, Err, Result, sym, ap, ◌∙◌, subst, arith}
 use Rattle.std.proofs.lemmas.List.Elements.{All-get_or, All-take}
 use Rattle.records.specs.declared.kinds.Node.{Node}
-use Rattle.records.specs.declared.kinds.Node.TheVariants as node
 use Rattle.numbers.specs.Computed.{lcm_of_all}
 use Rattle.numbers.specs.Divisors.{LeastCommonMultipleOfAll}
 use Rattle.numbers.proofs.All.{lcm_of_all_is}
@@ -13,6 +12,7 @@ use Rattle.nodes.specs.Finding.{AllPeriods, Within, period_in}
 use Rattle.nodes.specs.Periods.{PeriodsOf, LeastPeriod, period_of, periods_from, node_periods, tree_period}
 use Rattle.nodes.specs.Turns.{node_at}
 use Rattle.nodes.proofs.Known.{periods_later, length_periods, period_at, period_in_is}
+use Rattle.nodes.proofs.Together.{IsPeriod}
 
 module _ (nodes : List Node) (right : AllRight nodes) where
   -- a node's period, from those of all nodes
@@ -39,7 +39,7 @@ module _ (nodes : List Node) (ps qs : List ℕ) (k c : ℕ) (known : ps ≡ node
   roots_are = let e : k - 0 ≡ c = omega arith in rw (e, same, known)
 
   pub roots_periods : AllPeriods (take (k - 0) qs)
-  roots_periods = All-take _ (k - 0) qs (subst AllPeriods (sym same) all)
+  roots_periods = All-take IsPeriod (k - 0) qs (subst AllPeriods (sym same) all)
 
   pub roots_long : longest_period < lcm_of_all (take (k - 0) qs) → longest_period < tree_period nodes c
   roots_long long = subst (λ (l : ℕ). longest_period < l) roots_are long
@@ -49,7 +49,7 @@ module _ (nodes : List Node) (ps qs : List ℕ) (k c : ℕ) (known : ps ≡ node
     askable = askable;
     right = right;
     nodes_short = λ x inside.
-        (All-get_or _ (node_periods nodes) x 0 (omega (arith, inside, length_periods 0 nodes)) (subst AllPeriods known all)).1;
+        (All-get_or IsPeriod (node_periods nodes) x 0 (omega (arith, inside, length_periods 0 nodes)) (subst AllPeriods known all)).1;
     period = h.0 ∙ roots_are;
     short = h.1;
     some = h.2;

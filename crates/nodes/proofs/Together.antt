@@ -1,5 +1,5 @@
 -- The period that some cycles have together, one after the other.
-use Rattle.std.proofs.Common.{ℕ, ◌+◌, ◌<◌, ◌≤◌, List, [], ◌∷◌, ◌++◌, length, get_or, take, drop, Some, None, Option, sym, subst, arith}
+use Rattle.std.proofs.Common.{ℕ, suc, ◌+◌, ◌<◌, ◌≤◌, List, [], ◌∷◌, ◌++◌, length, get_or, take, drop, Some, None, Option, sym, subst, arith}
 use Rattle.std.proofs.lemmas.List.Elements.{All-get_or}
 use Rattle.std.proofs.lemmas.List.{take_all, take-append-drop, take_more}
 use Rattle.numbers.specs.Computed.{lcm_of_all}
@@ -8,9 +8,13 @@ use Rattle.numbers.proofs.All.{AllPositive, lcm_all_unique, lcm_all_grows, lcm_a
 use Rattle.plans.specs.Periods.{PeriodOf, longest_period}
 use Rattle.nodes.specs.Finding.{AllPeriods, Within}
 
+-- what a number has to be to be a period
+abbrev pub IsPeriod : ℕ → Type 0
+IsPeriod p = (0 < p) × (p ≤ longest_period)
+
 pub all_positive : (xs : List ℕ) → AllPeriods xs → AllPositive xs
 all_positive [] h = tt
-all_positive (x ∷ xs) h = (h.0.0, all_positive xs h.1)
+all_positive (x ∷ xs) h = ((h 0 0 (omega arith)).0, all_positive xs (λ k d low. h (suc k) d (omega arith)))
 
 pub lcm_positive_of : (xs : List ℕ) → AllPeriods xs → 0 < lcm_of_all xs
 lcm_positive_of xs h = lcm_all_positive xs _ (all_positive xs h) (lcm_of_all_is xs)
@@ -33,4 +37,4 @@ within_none xs i p h =
 -- one cycle more
 module _ (xs : List ℕ) (i l : ℕ) (r : Option ℕ) (inside : i < length xs) (all : AllPeriods xs) where
   pub period_next : ((ys : List ℕ) → 0 < get_or xs i 0 → PeriodOf ys (Some l) → PeriodOf (ys ++ (get_or xs i 0 ∷ [])) r) → PeriodOf (take i xs) (Some l) → PeriodOf (take (i + 1) xs) r
-  period_next joins h = rw (take_more xs i 0 inside) (joins (take i xs) (All-get_or _ xs i 0 inside all).0 h)
+  period_next joins h = rw (take_more xs i 0 inside) (joins (take i xs) (All-get_or IsPeriod xs i 0 inside all).0 h)

@@ -1,6 +1,6 @@
 -- The period of a tree: a leaf has 1, an inner node of degree d has d times the least common multiple of its children's,
 -- and the tree has the least common multiple of those of its roots.
-use Rattle.std.specs.Prelude.{◌≡◌, ℕ, suc, ◌+◌, ◌-◌, ◌*◌, ◌<◌, List, [], ◌∷◌, length, take, drop, slice_index}
+use Rattle.std.specs.Prelude.{◌≡◌, ℕ, suc, ◌-◌, ◌*◌, ◌<◌, List, [], ◌∷◌, length, take, drop, slice_index}
 use Rattle.records.specs.declared.kinds.Inner.{Inner}
 use Rattle.records.specs.declared.kinds.Leaf.{Leaf}
 use Rattle.records.specs.declared.kinds.Node.{Node}

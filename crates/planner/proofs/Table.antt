@@ -1,5 +1,5 @@
 -- One subchannel more in the table.
-use Rattle.std.proofs.Common.{◌≡◌, ℕ, zero, suc, ◌+◌, ◌-◌, ◌*◌, ◌<◌, ◌≤◌, ◌≢◌, List, [], ◌∷◌, ◌++◌, length, set, Some, Option, sym, refl, ap, ◌∙◌, subst, append_assoc, add-one, arith, get_or-set_other, get_or-set_same, below_more}
+use Rattle.std.proofs.Common.{◌≡◌, ℕ, ◌+◌, ◌*◌, ◌<◌, ◌≢◌, List, [], ◌∷◌, ◌++◌, length, set, Some, Option, refl, ap, ◌∙◌, subst, append_assoc, add-one, arith, get_or-set_other, get_or-set_same, below_more}
 use Rattle.records.specs.declared.kinds.Channel.{Channel}
 use Rattle.numbers.proofs.All.{lcm_all_none}
 use Rattle.planner.specs.Pagoda.{Deals, Takes, count_at, begins, place, cycles, first_of, share, share_of, channel_cycles}

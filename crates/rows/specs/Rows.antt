@@ -1,5 +1,5 @@
 -- The timetable of a list of rows.
-use Rattle.std.specs.Prelude.{ℕ, ◌%◌, min, Bool, true, false, cond, not, ◌&&◌, List, [], ◌∷◌, Some, None, Option, ◌==◌}
+use Rattle.std.specs.Prelude.{ℕ, ◌%◌, min, Bool, cond, not, ◌&&◌, List, [], ◌∷◌, Some, None, Option, ◌==◌}
 use Rattle.std.specs.Option.{unwrap_or}
 use Rattle.records.specs.declared.kinds.Row.{Row}
 use Rattle.timetable.specs.Meaning.{Meaning, Lawful, repeating, repeating_lawful}

@@ -6,11 +6,11 @@ use Rattle.nodes.proofs.period.all_joined.Goals as goal
 pub loop-cycle-init : goal.loop-cycle-init
 loop-cycle-init c = (lcm_all_none, omega arith, omega arith)
 
-pub returns-in-default : goal.returns-in-default
-returns-in-default c =
+pub returns-in_default : goal.returns-in_default
+returns-in_default c =
     let next =
     period_next c.args.cycles.now c.loop-cycle.cycle-index c.loop-cycle.period None (omega arith) c.requires.positive
-    c.in-default.ensures.joins_cycle c.loop-cycle.invariant in
+    c.in_default.ensures.joins_cycle c.loop-cycle.invariant in
     record { least_common_multiple = within_none c.args.cycles.now _ c.requires.positive next }
 
 pub loop-cycle-preserved : goal.loop-cycle-preserved

@@ -6,16 +6,16 @@ use Rattle.nodes.proofs.period.fill_periods.Goals as goal
 pub loop-number-init : goal.loop-number-init
 loop-number-init c = known_none _ _ _ (omega arith) (omega arith)
 
-pub period-of-requires : goal.period-of-requires
-period-of-requires c =
+pub period_of-requires : goal.period_of-requires
+period_of-requires c =
     record {
       children_known =
           children_there c.args.nodes.now c.loop-number.periods (c.loop-number.number - 1) c.loop-number.number (omega arith) (omega arith)
           (c.requires.all_right (c.loop-number.number - 1) (omega arith)) (omega arith) c.loop-number.invariant;
     }
 
-pub returns-in-default : goal.returns-in-default
-returns-in-default c =
+pub returns-in_default : goal.returns-in_default
+returns-in_default c =
     let here =
     period_here c.args.nodes.now c.loop-number.periods (c.loop-number.number - 1) c.loop-number.number (omega arith) (omega arith)
     (c.requires.all_right (c.loop-number.number - 1) (omega arith)) (omega arith) c.loop-number.invariant in
@@ -23,7 +23,7 @@ returns-in-default c =
       filled = (
         c.loop-number.number - 1,
         omega arith,
-        subst (λ (p : ℕ). longest_period < p) here c.in-default.ensures.own_period,
+        subst (λ (p : ℕ). longest_period < p) here c.in_default.ensures.own_period,
       );
     }
 

@@ -5,12 +5,12 @@ use Rattle.nodes.proofs.period.node_periods.Goals as goal
 
 pub returns : goal.returns
 returns c =
-    let filled = c.if-not-fill-periods.ensures.filled in
-    let same = with_items_is c.in-ok-periods.periods c.fill-periods.new.periods (omega (arith, c.in-ok-periods.periods.ok.0)) in
+    let filled = c.if-not-fill_periods.ensures.filled in
+    let same = with_items_is c.in_ok-periods.periods c.fill_periods.new.periods (omega (arith, c.in_ok-periods.periods.ok.0)) in
     record {
       each_or_refusal = (
         same ∙ filled.known,
-        c.in-ok-periods.ensures.len,
+        c.in_ok-periods.ensures.len,
         subst AllPeriods (sym same) filled.periods,
       );
     }

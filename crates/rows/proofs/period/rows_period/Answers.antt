@@ -1,4 +1,4 @@
-use Rattle.std.proofs.Common.{sym, refl, ap, subst, inl, arith}
+use Rattle.std.proofs.Common.{sym, refl, subst, inl, arith}
 use Rattle.std.proofs.lemmas.List.{take_all}
 use Rattle.numbers.proofs.All.{lcm_all_none}
 use Rattle.plans.specs.Periods.{PeriodOf}
@@ -22,4 +22,4 @@ pub returns : goal.returns
 returns c =
     let rs = c.args.rows.now in
     let all = subst (λ l. PeriodOf (row_periods l) c.loop-row.period) (take_all _ _ c.loop-row-test.false) c.loop-row.invariant in
-    record { least_common_multiple = subst (RowsPeriod rs) (sym c.ok-or.ensures.value) (together rs c.loop-row.period all) }
+    record { least_common_multiple = subst (RowsPeriod rs) (sym c.ok_or.ensures.value) (together rs c.loop-row.period all) }

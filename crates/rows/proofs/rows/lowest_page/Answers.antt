@@ -6,7 +6,7 @@ use Rattle.rows.proofs.rows.lowest_page.Goals as goal
 
 pub loop-row-preserved : goal.loop-row-preserved
 loop-row-preserved c =
-    c.lower-page-found.ensures.is_lower ∙ (λ i. lower (c.loop-row.invariant i) (c.offered-page.ensures.is_offered i)) ∙ sym (lowest_more c.args.rows.now c.loop-row.row-index c.args.channel c.args.slot _ c.loop-row-test.true)
+    c.lower_page-found.ensures.is_lower ∙ (λ i. lower (c.loop-row.invariant i) (c.offered_page.ensures.is_offered i)) ∙ sym (lowest_more c.args.rows.now c.loop-row.row-index c.args.channel c.args.slot _ c.loop-row-test.true)
 
 pub returns : goal.returns
 returns c = record { is_lowest = c.loop-row.invariant ∙ ap (λ l. lowest l c.args.channel c.args.slot) (take_all _ _ c.loop-row-test.false) }

@@ -9,13 +9,13 @@ same_product a b x y e d = rw (e, d)
 pub returns-then-first-pages : goal.returns-then-first-pages
 returns-then-first-pages c =
     let grows = first_of_grows c.args.delay c.args.subchannels c.args.from.first (c.loop-turn.turn + 1) c.args.subchannels (omega arith) in
-    let next = next_first c.args.delay c.args.subchannels c.args.from.first c.loop-turn.turn c.loop-turn.first c.pages-from-pages.result c.loop-turn.invariant.0 (omega arith) in
+    let next = next_first c.args.delay c.args.subchannels c.args.from.first c.loop-turn.turn c.loop-turn.first c.pages_from-pages.result c.loop-turn.invariant.0 (omega arith) in
     record { dealt = omega (arith, grows, next); kept = c.loop-turn.invariant.4 }
 
 pub loop-turn-preserved : goal.loop-turn-preserved
 loop-turn-preserved c =
-    let shared = next_share c.args.delay c.args.subchannels c.args.from.first c.loop-turn.turn c.loop-turn.first c.pages-from-pages.result c.loop-turn.invariant.0 (omega arith) in (
-      next_first c.args.delay c.args.subchannels c.args.from.first c.loop-turn.turn c.loop-turn.first c.pages-from-pages.result c.loop-turn.invariant.0 (omega arith),
+    let shared = next_share c.args.delay c.args.subchannels c.args.from.first c.loop-turn.turn c.loop-turn.first c.pages_from-pages.result c.loop-turn.invariant.0 (omega arith) in (
+      next_first c.args.delay c.args.subchannels c.args.from.first c.loop-turn.turn c.loop-turn.first c.pages_from-pages.result c.loop-turn.invariant.0 (omega arith),
       omega arith,
       omega arith,
       row_laid_more _ _ _ c.loop-turn.turn c.loop-turn.table c.args.row _ (omega arith) c.loop-turn.invariant.0 shared c.loop-turn.invariant.3,
