@@ -1,5 +1,6 @@
 -- What a timetable of rows carries where the rows share no slot.
 use Rattle.std.proofs.Common.{◌≡◌, ℕ, zero, suc, ◌<◌, ◌≤◌, true, cond, List, [], ◌∷◌, length, get_or, Some, None, All, sum_by, Option, unwrap_or, refl, ap, ◌∙◌, ⊎_elim, arith}
+use Rattle.std.proofs.lemmas.List.Elements.{All-head, All-tail}
 use Rattle.std.proofs.lemmas.List.Sums.{sum_by-cons, get_or-le-sum_by}
 use Rattle.std.proofs.lemmas.Bool.{cases_Bool, cond_both}
 use Rattle.records.specs.declared.kinds.Row.{Row}
@@ -17,8 +18,8 @@ module _ (n k u : ℕ) where
   page_below [] h = omega arith
   page_below (r ∷ rs) h =
       lower_below (offered k u r) (lowest rs k u)
-      (cond_both (fitting k u r) (Some r.page) None (λ o. unwrap_or o 0 ≤ n) (λ _. h.0) (λ _. omega arith))
-      (page_below rs h.1)
+      (cond_both (fitting k u r) (Some r.page) None (λ o. unwrap_or o 0 ≤ n) (λ _. All-head (λ x. x.page ≤ n) r rs h) (λ _. omega arith))
+      (page_below rs (All-tail (λ x. x.page ≤ n) r rs h))
 
 module _ (k u : ℕ) where
   fits_one : (r : Row) → fitting k u r ≡ true → row_covers k u r ≡ 1

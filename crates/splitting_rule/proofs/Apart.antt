@@ -1,5 +1,6 @@
 -- No slot of a channel is in two rows, and every row lies on one of the channels.
 use Rattle.std.proofs.Common.{◌≡◌, ℕ, zero, suc, ◌%◌, ◌<◌, ◌≤◌, cond, ◌&&◌, eqb, List, length, get_or, take, All, sum_by, refl, ap, ⊎_elim, arith}
+use Rattle.std.proofs.lemmas.List.Elements.{All-nil, All-cons}
 use Rattle.std.proofs.lemmas.List.Sums.{sum_by-cons, get_or-le-sum_by}
 use Rattle.std.proofs.lemmas.Bool.{ne_eqb, cases_eq, cases_lt, cond_both}
 use Rattle.records.specs.declared.kinds.Row.{Row}
@@ -8,8 +9,9 @@ use Rattle.splitting_rule.specs.Sharing.{row_covers, SharedOut, Apart}
 use Rattle.sequences.specs.declared.sequence.FreeSequence.{FreeSequence}
 
 pub channels_usable : (m c : ℕ) → 1 ≤ m → All (Usable m) (whole_channels c)
-channels_usable m zero h = tt
-channels_usable m (suc c) h = (record { some = omega arith; within = h; starts = omega arith }, channels_usable m c h)
+channels_usable m zero h = All-nil (Usable m)
+channels_usable m (suc c) h =
+    All-cons (Usable m) (whole (suc c)) (whole_channels c) (record { some = omega arith; within = h; starts = omega arith }) (channels_usable m c h)
 
 -- another channel's slots are not those of channel k
 other_channel : (j k t : ℕ) → (j ≡ k → ⊥) → covers k t (whole j) ≡ 0

@@ -2,7 +2,7 @@
 use Rattle.std.proofs.Common.{◌≡◌, ℕ, zero, suc, ◌+◌, ◌-◌, ◌*◌, ◌/◌, ◌%◌, ◌<◌, ◌≤◌, Bool, true, false, cond, not, ◌&&◌, eqb, leb, List, ◌∷◌, length, get_or, take, All, sum_by, sym, refl, ap, ◌∙◌, subst, ⊎_elim, add-zero, mod-lt, add_comm, mul-pos, one-mul, zero-mul, div-mul-le_self, add-one, arith}
 use lib.Arith.{mod-mul}
 use Rattle.std.proofs.lemmas.Nat.{le-div}
-use Rattle.std.proofs.lemmas.List.Elements.{All-append, All-weaker}
+use Rattle.std.proofs.lemmas.List.Elements.{All-nil, All-cons, All-head, All-tail, All-append, All-weaker}
 use Rattle.std.proofs.lemmas.List.Sorted.{sum_by-IsPermutation, All-permutation}
 use Rattle.std.proofs.lemmas.List.Sums.{sum_by-cons, sum_by-append, sum_by_more}
 use Rattle.std.proofs.lemmas.Bool.{le-leb, eq-eqb, ne_eqb, cases_eq}
@@ -84,14 +84,17 @@ whole_parts w s u = le-div 1 w s.period u.some (omega (arith, one-mul s.period, 
 
 -- each piece can be cut in its turn
 all_pieces : (w parts n : ℕ) (s : FreeSequence) → parts * s.period ≤ w → n < parts → Usable w s → All (Usable w) (pieces s parts n)
-all_pieces w parts zero s fit low h = tt
+all_pieces w parts zero s fit low h = All-nil (Usable w)
 all_pieces w parts (suc n) s fit low h =
     let starts = piece_starts (suc n) parts s.period s.start low h.starts in
-    (record { some = omega (arith, h.some); within = fit; starts = starts }, all_pieces w parts n s fit (omega arith) h)
+    All-cons (Usable w) (piece s parts (suc n)) (pieces s parts n)
+    (record { some = omega (arith, h.some); within = fit; starts = starts }) (all_pieces w parts n s fit (omega arith) h)
 
 module _ (page w most : ℕ) (free : List FreeSequence) (row : Row) (left : List FreeSequence) (usable : All (Usable w) free) (p : Placed page w most free row left) where
   split : Usable w p.s × All (Usable w) p.others
-  split = All-permutation (Usable w) free (p.s ∷ p.others) p.chosen.out usable
+  split =
+      let all : All (Usable w) (p.s ∷ p.others) = All-permutation (Usable w) free (p.s ∷ p.others) p.chosen.out usable in
+      (All-head (Usable w) p.s p.others all, All-tail (Usable w) p.s p.others all)
 
   -- the row of one page starts in its period, which its window holds
   pub placed_row : (row.page ≡ page) × (row.start < row.period) × (row.period ≤ w)

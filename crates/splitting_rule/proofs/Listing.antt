@@ -2,6 +2,7 @@
 use Rattle.std.proofs.Common.{◌≡◌, ℕ, zero, suc, ◌+◌, true, false, leb, List, [], ◌∷◌, ◌++◌, length, Ok, Err, refl, inl, inr, ⊎_elim, arith}
 use Rattle.std.specs.List.Sorted.{IsPermutation}
 use Rattle.std.proofs.lemmas.List.{length_push}
+use Rattle.std.proofs.lemmas.List.Elements.{All-nil, All-cons, All-head, All-tail}
 use Rattle.std.proofs.lemmas.List.Sorted.{IsPermutation-refl, IsPermutation-cons, IsPermutation-swap, IsPermutation-trans}
 use Rattle.std.proofs.lemmas.Bool.{cases_Bool, cond_both, leb-true, leb-false}
 use Rattle.records.specs.declared.kinds.Row.{Row}
@@ -20,18 +21,22 @@ module _ (w : ℕ) where
   pick_later : (x y : FreeSequence) (ys : List FreeSequence) (p : Pick) → earlier w y x ≡ true → Chosen w (y ∷ ys) p.0 p.1 → Chosen w (x ∷ (y ∷ ys)) p.0 (x ∷ p.1)
   pick_later x y ys p e h = record {
     out = IsPermutation-trans _ _ _ (IsPermutation-cons x _ _ h.out) (swap_two x p.0 p.1);
-    first = ((earlier_ranks w).chain x y p.0 ((earlier_ranks w).one_way y x e) h.first.0, h.first);
+    first = All-cons (λ z. earlier w z p.0 ≡ false) x (y ∷ ys)
+        ((earlier_ranks w).chain x y p.0 ((earlier_ranks w).one_way y x e) (All-head (λ z. earlier w z p.0 ≡ false) y ys h.first)) h.first;
   }
 
   -- and y where it does not come before x
   pick_sooner : (x y : FreeSequence) (ys : List FreeSequence) (p : Pick) → earlier w y x ≡ false → Chosen w (x ∷ ys) p.0 p.1 → Chosen w (x ∷ (y ∷ ys)) p.0 (y ∷ p.1)
   pick_sooner x y ys p e h = record {
     out = IsPermutation-trans _ _ _ (swap_two x y ys) (IsPermutation-trans _ _ _ (IsPermutation-cons y _ _ h.out) (swap_two y p.0 p.1));
-    first = (h.first.0, ((earlier_ranks w).chain y x p.0 e h.first.0, h.first.1));
+    first =
+        let head : earlier w x p.0 ≡ false = All-head (λ z. earlier w z p.0 ≡ false) x ys h.first in
+        All-cons (λ z. earlier w z p.0 ≡ false) x (y ∷ ys) head
+        (All-cons (λ z. earlier w z p.0 ≡ false) y ys ((earlier_ranks w).chain y x p.0 e head) (All-tail (λ z. earlier w z p.0 ≡ false) x ys h.first));
   }
 
   pick_chosen : (x : FreeSequence) (xs : List FreeSequence) → Chosen w (x ∷ xs) (pick w x xs).0 (pick w x xs).1
-  pick_chosen x [] = record { out = IsPermutation-refl (x ∷ []); first = (not_before_itself x, tt) }
+  pick_chosen x [] = record { out = IsPermutation-refl (x ∷ []); first = All-cons (λ z. earlier w z x ≡ false) x [] (not_before_itself x) (All-nil (λ z. earlier w z x ≡ false)) }
     where
       not_before_itself : (x : FreeSequence) → earlier w x x ≡ false
       not_before_itself x = ⊎_elim (λ e. (earlier_ranks w).one_way x x e) (λ e. e) (cases_Bool (earlier w x x))

@@ -2,24 +2,26 @@
 use Rattle.std.proofs.Common.{◌≡◌, ℕ, zero, suc, ◌+◌, ◌<◌, ◌⊎◌, List, [], ◌∷◌, ◌++◌, length, get_or, set, All, sym, refl, subst, inl, inr, add-one, arith, get_or-set_other, get_or-set_same}
 use Rattle.std.specs.List.Sorted.{IsPermutation}
 use Rattle.std.proofs.lemmas.List.{get_or_append_left, get_or_push}
+use Rattle.std.proofs.lemmas.List.Elements.{All-head}
 use Rattle.std.proofs.lemmas.List.Sorted.{All-permutation, IsPermutation-trans}
 use Rattle.records.specs.declared.kinds.Row.{Row}
 use Rattle.bag.specs.Bags.{held, room, Takes}
 use Rattle.bag.specs.declared.bag.Bag.{Bag}
+use Rattle.bag.specs.declared.ranked.Ranked.{Ghosts}
 use Rattle.bag.proofs.Memory.{held_within}
 use Rattle.splitting_rule.specs.Rule.{Chosen, Placed, Crowded, Splits, Refuses, rest_of, row_of}
 use Rattle.sequences.specs.Sequences.{Usable, earlier}
 use Rattle.sequences.specs.declared.sequence.FreeSequence.{FreeSequence}
 
-module _ (w : ℕ) (s : FreeSequence) (a b : Bag FreeSequence) (taken : Takes (earlier w) s a b) where
+module _ {g : Ghosts FreeSequence} (w : ℕ) (s : FreeSequence) (a b : Bag FreeSequence g) (taken : Takes (earlier w) s a b) where
   chosen : Chosen w (held a) s (held b)
   chosen = record { out = taken.one_less; first = taken.first }
 
   pub taken_usable : All (Usable w) (held a) → Usable w s
-  taken_usable usable = (All-permutation (Usable w) (held a) (s ∷ held b) taken.one_less usable).0
+  taken_usable usable = All-head (Usable w) s (held b) (All-permutation (Usable w) (held a) (s ∷ held b) taken.one_less usable)
 
   -- the sequence is taken out of a, and the rest of it is put into b
-  pub placed : (page : ℕ) (c : Bag FreeSequence) → room c ≡ room a → IsPermutation (rest_of w s ++ held b) (held c) → Placed page w (room a) (held a) (row_of page w s) (held c)
+  pub placed : (page : ℕ) (c : Bag FreeSequence g) → room c ≡ room a → IsPermutation (rest_of w s ++ held b) (held c) → Placed page w (room a) (held a) (row_of page w s) (held c)
   placed page c same cut = record {
     s = s;
     others = held b;

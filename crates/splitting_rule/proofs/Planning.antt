@@ -7,6 +7,7 @@ use Rattle.plans.specs.Periods.{PeriodOf}
 use Rattle.plans.specs.declared.refusal.Refusal.{Refusal}
 use Rattle.bag.specs.Bags.{room, Emptied}
 use Rattle.bag.specs.declared.bag.Bag.{Bag}
+use Rattle.bag.specs.declared.ranked.Ranked.{Ghosts}
 use Rattle.rows.specs.Period.{row_periods, Idle, RowsPeriod}
 use Rattle.splitting_rule.specs.Answers.{Askable, Enough, FillAnswer, SplittingAnswer, SplittingApart, SplittingListed, SplittingSound, zero_row}
 use Rattle.splitting_rule.specs.Rule.{Splits}
@@ -32,7 +33,7 @@ module _ (m c n most : ℕ) (before after : List Row) (left : List FreeSequence)
   filled (Err e) h =
       inr (inr (h.0, enough, record { rows = after; left = left; splits = splits; period = why_none h.1 }))
 
-module _ (m c n : ℕ) (before after : List Row) (was is : Bag FreeSequence) (same : length after ≡ length before) where
+module _ {g : Ghosts FreeSequence} (m c n : ℕ) (before after : List Row) (was is : Bag FreeSequence g) (same : length after ≡ length before) where
   pub answer_apart : (answer : Result ℕ Refusal) → SplittingAnswer m c n before after was is answer → SplittingApart n after answer
   answer_apart (Ok p) h =
       let plan = h.0 in

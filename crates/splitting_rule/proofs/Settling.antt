@@ -1,6 +1,7 @@
 -- The rule leaves nothing open: the rows, and the refusals, are those that are computed on lists.
 use Rattle.std.proofs.Common.{◌≡◌, ℕ, zero, suc, ◌+◌, ◌<◌, ◌≤◌, false, cond, ◌⊎◌, List, [], ◌∷◌, ◌++◌, length, get_or, take, Ok, Err, sum_by, sym, refl, ap, ◌∙◌, subst, inl, inr, ⊎_elim, arith}
 use Rattle.std.proofs.lemmas.List.{ext_get_or, length-take-le, get_or-take}
+use Rattle.std.proofs.lemmas.List.Elements.{All-head, All-tail}
 use Rattle.std.proofs.lemmas.List.Sorted.{length_permutation, sum_by-IsPermutation}
 use Rattle.std.proofs.lemmas.List.Sums.{sum_by-cons, sum_by-append}
 use Rattle.std.proofs.lemmas.Bool.{cases_Bool, cases_eq, cases_order}
@@ -35,8 +36,8 @@ module _ (w : ℕ) where
   first_none : (s : FreeSequence) (xs : List FreeSequence) → First (earlier w) s xs → sum_by (sooner w s) xs ≡ 0
   first_none s [] h = refl
   first_none s (x ∷ xs) h =
-      let here : sooner w s x ≡ 0 = ap (λ b. cond b 1 0) h.0 in
-      omega (arith, sum_by-cons (sooner w s) x xs, here, first_none s xs h.1)
+      let here : sooner w s x ≡ 0 = ap (λ b. cond b 1 0) (All-head (λ y. earlier w y s ≡ false) x xs h) in
+      omega (arith, sum_by-cons (sooner w s) x xs, here, first_none s xs (All-tail (λ y. earlier w y s ≡ false) x xs h))
 
   module _ (free free' : List FreeSequence) (s s' : FreeSequence) (others others' : List FreeSequence) (alike : Alike free free') (this : Chosen w free s others) (that : Chosen w free' s' others') where
     not_before : earlier w s' s ≡ false

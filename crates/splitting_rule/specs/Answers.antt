@@ -10,6 +10,7 @@ use Rattle.rows.specs.Period.{row_periods}
 use Rattle.rows.specs.Rows.{rows_timetable}
 use Rattle.bag.specs.Bags.{room, Same, Emptied}
 use Rattle.bag.specs.declared.bag.Bag.{Bag}
+use Rattle.bag.specs.declared.ranked.Ranked.{Ghosts}
 use Rattle.splitting_rule.specs.Listed.{split_list}
 use Rattle.splitting_rule.specs.Rule.{Splits, Refuses}
 use Rattle.sequences.specs.Sequences.{whole_channels}
@@ -62,12 +63,12 @@ FillAnswer m c n most before after answer =
     MatchResult answer (Plan m c n most before after) (λ e. NoPlan m c n (length before) most (told e))
 
 -- 1: a number is out of range, and nothing has changed; else there is no plan, and every row is zero and the bag empty
-abbrev pub Refused : ℕ → ℕ → ℕ → List Row → List Row → Bag FreeSequence → Bag FreeSequence → ℕ × List ℕ → Type 0
+abbrev pub Refused : {g : Ghosts FreeSequence} → ℕ → ℕ → ℕ → List Row → List Row → Bag FreeSequence g → Bag FreeSequence g → ℕ × List ℕ → Type 0
 Refused m c n before after was is t =
     ((t ≡ (1, [])) × (Askable m c n → ⊥) × (after ≡ before) × Same was is)
     ⊎ (Askable m c n × NoPlan m c n (length before) (room was) t × AllZero after × Emptied is)
 
-abbrev pub SplittingAnswer : ℕ → ℕ → ℕ → List Row → List Row → Bag FreeSequence → Bag FreeSequence → Result ℕ Refusal → Type 0
+abbrev pub SplittingAnswer : {g : Ghosts FreeSequence} → ℕ → ℕ → ℕ → List Row → List Row → Bag FreeSequence g → Bag FreeSequence g → Result ℕ Refusal → Type 0
 SplittingAnswer m c n before after was is answer =
     MatchResult answer (λ p. Plan m c n (room was) before after p × Emptied is) (λ e. Refused m c n before after was is (told e))
 
