@@ -5,6 +5,7 @@ use Rattle.std.specs.Vec.{with_items}
 use Rattle.std.proofs.lemmas.List.{with_items_is}
 use Rattle.std.proofs.lemmas.Bool.{cases_lt, cond-true, lt-ltb}
 use Rattle.bag.specs.declared.bag.Bag.{Bag}
+use Rattle.bag.specs.declared.ranked.Ranked.{Ghosts}
 use Rattle.bag.specs.declared.finding.Finding.{Finding}
 use Rattle.checker.specs.Findings.{Ascending}
 use Rattle.station.specs.declared.call.Answer.{Answer}
@@ -31,7 +32,7 @@ ascending_of : (s : State) (cells places : ℕ) (xs : List Finding) → Findings
 ascending_of s cells places _ (all_found xs ok room exact fits) = exact.ascending
 
 -- what the findings call returned and the bag held is told
-pub findings_told_as : (E : Type 0) (s : State) (cells places : ℕ) (result : Result ℕ Refusal) (bag : Bag Finding) (a : Answer) → FindingsOf s cells places result bag → TellsFindings {E = E} result bag (Ok a) → FindingsTold s cells places (answered a)
+pub findings_told_as : (E : Type 0) {o : Ghosts Finding} (s : State) (cells places : ℕ) (result : Result ℕ Refusal) (bag : Bag Finding o) (a : Answer) → FindingsOf s cells places result bag → TellsFindings {E = E} result bag (Ok a) → FindingsTold s cells places (answered a)
 findings_told_as E s cells places (Ok count) bag a h tells =
     subst (λ t. FindingsTold s cells places t) (sym (tells h.0 (ascending_of s cells places h.0 h.1) h.2)) h.1
 findings_told_as E s cells places (Err e) bag a h tells = subst (λ t. FindingsTold s cells places t) (sym tells) h.0

@@ -1,10 +1,11 @@
 -- What a station tells of its findings, of a survey and of a slot.
-use Rattle.std.proofs.Common.{◌≡◌, ℕ, ◌+◌, ◌<◌, ◌≤◌, List, length, Ok, Err, Result, sym, refl, ap, subst, ⊎_elim, arith}
+use Rattle.std.proofs.Common.{◌≡◌, ℕ, ◌+◌, ◌<◌, ◌≤◌, List, length, Ok, Err, sym, refl, ap, subst, ⊎_elim, arith}
 use Rattle.std.proofs.lemmas.List.Sorted.{length_permutation}
 use Rattle.std.proofs.lemmas.Bool.{le-ltb, lt-leb}
 use Rattle.timetable.specs.Closed.{line}
 use Rattle.bag.specs.Bags.{room, SameMemory}
 use Rattle.bag.specs.declared.bag.Bag.{Bag}
+use Rattle.bag.specs.declared.ranked.Ranked.{Ghosts}
 use Rattle.bag.specs.declared.finding.Finding.{Finding}
 use Rattle.bag.proofs.Memory.{held_within}
 use Rattle.checker.specs.Findings.{Finds}
@@ -17,7 +18,7 @@ use Rattle.station.specs.declared.phase.Phase.TheVariants.{Open, OnAir}
 use Rattle.station.specs.declared.refusal.Refusal.TheVariants as refusal
 use Rattle.station.specs.States.{State, sent_by, FindingsOf, out_of_range, few_cells, short_bag, all_found, SurveyTold, short_scratch, long_period, peak, surveyed, refused, Is, ticks, ticks_from, ticked, with_phase, last_slot}
 
-module _ (s : State) (cells : ℕ) (a b : Bag Finding) (same : SameMemory a b) where
+module _ (s : State) (cells : ℕ) {o : Ghosts Finding} (a b : Bag Finding o) (same : SameMemory a b) where
   pub findings_told : (count : ℕ) → Finds (sent_by s) s.delay s.pages cells (Ok count) b → FindingsOf s cells (room a) (Ok count) b
   findings_told count h =
       let xs = h.2.findings in

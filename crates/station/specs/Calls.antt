@@ -1,8 +1,9 @@
 -- Any of the calls: what it answers, what it leaves in the memory that it was lent, and the state after it.
-use Rattle.std.specs.Prelude.{◌≡◌, ℕ, ◌≤◌, List, [], ◌∷◌, ◌++◌, map, length, take, drop, replicate, IfOk, Ok, Err, vec_items, Result}
+use Rattle.std.specs.Prelude.{◌≡◌, ℕ, ◌≤◌, List, [], ◌∷◌, ◌++◌, length, take, drop, replicate, IfOk, Ok, Err, vec_items, Result}
 use Rattle.std.specs.List.Sorted.{IsPermutation}
 use Rattle.bag.specs.Bags.{held}
 use Rattle.bag.specs.declared.bag.Bag.{Bag}
+use Rattle.bag.specs.declared.ranked.Ranked.{Ghosts}
 use Rattle.bag.specs.declared.finding.Finding.{Finding}
 use Rattle.checker.specs.Findings.{Ascending}
 use Rattle.station.specs.declared.refusal.Refusal.{Refusal}
@@ -45,7 +46,7 @@ abbrev pub replied : Reply → Replied
 replied r = record { answer = answered r.answer; scratch = vec_items r.scratch; list = vec_items r.list }
 
 -- what the call returned and the bag then held, as an answer: the findings in their order, or the refusal
-abbrev pub TellsFindings : {E : Type 0} → Result ℕ Refusal → Bag Finding → Result Answer E → Type 0
+abbrev pub TellsFindings : {E : Type 0} {o : Ghosts Finding} → Result ℕ Refusal → Bag Finding o → Result Answer E → Type 0
 TellsFindings (Ok count) bag r = IfOk r (λ a. (xs : List Finding) → Ascending xs → IsPermutation xs (held bag) → answered a ≡ found xs)
 TellsFindings (Err e) bag r = IfOk r (λ a. answered a ≡ refused (told e))
 

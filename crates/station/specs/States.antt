@@ -7,6 +7,7 @@ use Rattle.timetable.specs.Closed.{closed_in, aired, line}
 use Rattle.timetable.specs.Windows.{InRange}
 use Rattle.bag.specs.Bags.{held, Emptied}
 use Rattle.bag.specs.declared.bag.Bag.{Bag}
+use Rattle.bag.specs.declared.ranked.Ranked.{Ghosts}
 use Rattle.bag.specs.declared.finding.Finding.{Finding}
 use Rattle.checker.specs.Judged.{Judged, Verdict}
 use Rattle.checker.specs.Judged as judged
@@ -200,6 +201,6 @@ pub data FindingsTold (s : State) (cells places : ℕ) : Told → Type 0 where
   all_found : (xs : List Finding) → InRange (sent_by s) s.delay s.pages → 2 * s.pages ≤ cells → Findings (sent_by s) s.delay s.pages xs → length xs ≤ places → FindingsTold s cells places (found xs)
 
 -- what the call returns and the bag then holds is what is told
-abbrev pub FindingsOf : State → ℕ → ℕ → Result ℕ Refusal → Bag Finding → Type 0
+abbrev pub FindingsOf : {o : Ghosts Finding} → State → ℕ → ℕ → Result ℕ Refusal → Bag Finding o → Type 0
 FindingsOf s cells places (Ok count) bag = (xs : List Finding) × FindingsTold s cells places (found xs) × IsPermutation xs (held bag) × (count ≡ length xs)
 FindingsOf s cells places (Err e) bag = FindingsTold s cells places (refused (told e)) × Emptied bag

@@ -1,4 +1,4 @@
-use Rattle.std.proofs.Common.{◌≡◌, length, Ok, Err, sym, subst}
+use Rattle.std.proofs.Common.{length, Ok, Err, subst}
 use Rattle.std.proofs.lemmas.Result.{err_from_is_err_and}
 use Rattle.timetable.specs.Closed.{aired}
 use Rattle.checker.specs.Findings.{Finds}
@@ -6,14 +6,14 @@ use Rattle.station.specs.States.{seen}
 use Rattle.station.proofs.Telling.{findings_told, findings_refused}
 use Rattle.station.proofs.station.Station.findings.Goals as goal
 
-pub returns-in-err-findings : goal.returns-in-err-findings
-returns-in-err-findings g c =
+pub returns-in_err-findings : goal.returns-in_err-findings
+returns-in_err-findings g c =
     let M = g.T.Timetable.meaning c.args.self.now.table in
     let s = seen M c.args.self.now in
     let cells = length c.args.scratch.now in
-    let e = c.in-err-findings.field-0.0 in
-    let h = subst (λ es. Finds (aired M es) s.delay s.pages cells (Err e) c.findings.new.bag) c.closed.ensures.lists_closed c.in-err-findings.ensures.finds in
-    let p = err_from_is_err_and c.from-residual.result c.from-residual.ensures.1 in
+    let e = c.in_err-findings.field-0.0 in
+    let h = subst (λ es. Finds (aired M es) s.delay s.pages cells (Err e) c.findings.new.bag) c.closed.ensures.lists_closed c.in_err-findings.ensures.finds in
+    let p = err_from_is_err_and c.from_residual.result c.from_residual.ensures.1 in
     record {
       finds_or_refuses = rw (p.1, p.2) (findings_refused s cells c.args.bag.now c.findings.new.bag c.findings.ensures.same_memory e h);
       same_memory = c.findings.ensures.same_memory;
@@ -25,8 +25,8 @@ returns g c =
     let M = g.T.Timetable.meaning c.args.self.now.table in
     let s = seen M c.args.self.now in
     let cells = length c.args.scratch.now in
-    let count = c.in-ok-findings.field-0 in
-    let h = subst (λ es. Finds (aired M es) s.delay s.pages cells (Ok count) c.findings.new.bag) c.closed.ensures.lists_closed c.in-ok-findings.ensures.finds in
+    let count = c.in_ok-findings.field-0 in
+    let h = subst (λ es. Finds (aired M es) s.delay s.pages cells (Ok count) c.findings.new.bag) c.closed.ensures.lists_closed c.in_ok-findings.ensures.finds in
     record {
       finds_or_refuses = findings_told s cells c.args.bag.now c.findings.new.bag c.findings.ensures.same_memory count h;
       same_memory = c.findings.ensures.same_memory;

@@ -11,7 +11,7 @@ returns g c =
     let r = replied c.bare.result in
     record {
       does = record {
-        steps = bare_steps s (Close c.args.entry) s' (answered c.close-answer.result) (by_close c.close-result.result) r c.bare.ensures.nothing_lent c.close-answer.ensures.tells_result c.close-result.ensures.closes_or_refuses;
+        steps = bare_steps s (Close c.args.entry) s' (answered c.close_answer.result) (by_close c.close-result.result) r c.bare.ensures.nothing_lent c.close_answer.ensures.tells_result c.close-result.ensures.closes_or_refuses;
         leaves = bare_leaves _ r c.bare.ensures.nothing_lent;
       };
     }

@@ -10,10 +10,10 @@ returns g c =
     let M = g.T.Timetable.meaning c.args.self.now.table in
     let s = seen M c.args.self.now in
     let t = c.in-OnAir.clock in
-    let xs = c.write-line.new.list in
+    let xs = c.write_line.new.list in
     let ys = c.args.list.now in
-    let written = subst (λ es. xs ≡ line (aired M es) t ++ drop M.channels ys) c.closed.ensures.lists_closed c.write-line.ensures.line_in_front in
+    let written = subst (λ es. xs ≡ line (aired M es) t ++ drop M.channels ys) c.closed.ensures.lists_closed c.write_line.ensures.line_in_front in
     record {
-      ticks_or_refuses = tick_told s (length ys) t _ c.in-OnAir.is (omega arith) c.if-clock-ge-LAST-SLOT.false (line_front (sent_by s) t xs ys written);
+      ticks_or_refuses = tick_told s (length ys) t _ c.in-OnAir.is (omega arith) c.if-clock-ge-LAST_SLOT.false (line_front (sent_by s) t xs ys written);
       list_after = line_written (sent_by s) t xs ys written;
     }

@@ -1,4 +1,4 @@
-use Rattle.std.proofs.Common.{◌≡◌, ℕ, ◌+◌, ◌<◌, List, ◌++◌, map, length, drop, subst, arith}
+use Rattle.std.proofs.Common.{◌≡◌, ℕ, ◌+◌, ◌<◌, ◌++◌, map, length, drop, arith}
 use Rattle.std.specs.List.{range_with_len}
 use Rattle.station.proofs.Lines.{line_more}
 use Rattle.station.proofs.station.airing.write_line.Goals as goal
@@ -9,5 +9,5 @@ loop-place-preserved g c =
     let low : c.loop-place.place < length c.args.list.now = omega arith in
     let more = line_more f c.args.list.now c.loop-place.place low in
     let so_far : c.loop-place.list ≡ map f (range_with_len 1 c.loop-place.place) ++ drop c.loop-place.place c.args.list.now = c.loop-place.invariant in
-    let page : c.page-at.result ≡ f (c.loop-place.place + 1) = c.page-at.ensures.answers_page in
+    let page : c.page_at.result ≡ f (c.loop-place.place + 1) = c.page_at.ensures.answers_page in
     rw (so_far, page) more

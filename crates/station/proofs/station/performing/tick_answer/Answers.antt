@@ -9,8 +9,8 @@ returns-after-channels-list c = record {
   tells_result = rw c.in-Ok.is (λ room. ap (λ zs. ticked c.in-Ok.clock zs) (elim c.if-channels-list.branch [
     | then-channels-list w ↦
         ap vec_items w.sent-is
-        ∙ with_items_is c.args.line w.copy-from-slice.new.self (w.copy-from-slice.ensures.len ∙ w.as-mut-slice.ensures.len)
-        ∙ w.copy-from-slice.ensures.after
+        ∙ with_items_is c.args.line w.copy_from_slice.new.self (w.copy_from_slice.ensures.len ∙ w.as_mut_slice.ensures.len)
+        ∙ w.copy_from_slice.ensures.after
         ∙ ap (λ k. take k c.args.list.now) (omega (arith, c.len-channels.ensures))
     | else-channels-list w ↦ absurd (omega (arith, w.if-channels-list.false))
   ]));

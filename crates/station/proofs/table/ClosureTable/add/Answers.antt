@@ -1,4 +1,4 @@
-use Rattle.std.proofs.Common.{arith, rules}
+use Rattle.std.proofs.Common.{rules}
 use Rattle.std.proofs.lemmas.List.{take_more_set}
 use Rattle.station.proofs.table.ClosureTable.add.Goals as goal
 

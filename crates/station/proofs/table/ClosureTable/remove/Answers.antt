@@ -12,7 +12,7 @@ returns-in-Some c =
     record {
       was_closed = sym (place_closed es c.args.channel c.args.slot c.in-Some.place there);
       stays_unless_closed = λ e. absurd (both_ways true e refl);
-      without_entry = c.remove-at.ensures.one_less ∙ place_removed es c.args.channel c.args.slot c.in-Some.place there;
+      without_entry = c.remove_at.ensures.one_less ∙ place_removed es c.args.channel c.args.slot c.in-Some.place there;
     }
 
 pub returns-in-None : goal.returns-in-None

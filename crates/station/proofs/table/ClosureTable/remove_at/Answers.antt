@@ -1,6 +1,6 @@
 use Rattle.std.proofs.Common.{◌≡◌, ◌-◌, subst, arith}
 use Rattle.station.specs.Tables.{Shifted}
-use Rattle.station.proofs.Places.{shifted_none, shifted_more, shifted_all}
+use Rattle.station.proofs.Places.{shifted_more, shifted_all}
 use Rattle.station.proofs.table.ClosureTable.remove_at.Goals as goal
 
 pub loop-i-preserved : goal.loop-i-preserved
