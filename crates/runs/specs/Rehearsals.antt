@@ -1,5 +1,5 @@
 -- What a rehearsal comes to.
-use Rattle.std.specs.Prelude.{◌≡◌, ℕ, Bool, true, false, cond, List, [], ◌∷◌, ◌++◌, map, Some, None, vec_items, Option}
+use Rattle.std.specs.Prelude.{◌≡◌, ℕ, Bool, true, false, cond, List, ◌++◌, map, Some, None, vec_items, Option}
 use Rattle.timetable.specs.Meaning.{Meaning}
 use Rattle.feeding.specs.Feeding.{fed, left}
 use Rattle.feeding.specs.Viewings.{viewed}
