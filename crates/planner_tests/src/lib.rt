@@ -1,3 +1,5 @@
+#![tactic(auto)]
+
 // Tests of timetables and planners: edges of every range, and timetables with absurd numbers.
 #[cfg(test)]
 mod tests {
