@@ -6,30 +6,30 @@ use Rattle.sequences.specs.Sequences.{Usable}
 use Rattle.splitting_rule.proofs.Placing.{taken_usable, placed, crowded}
 use Rattle.splitting.proofs.planner.place_page.Goals as goal
 
-pub nonzero-div-parts : goal.nonzero-div-parts
-nonzero-div-parts c =
+pub nonzero_div-parts : goal.nonzero_div-parts
+nonzero_div-parts c =
     let all = subst (λ (w : ℕ). All (Usable w) (held c.args.bag.now)) (sym c.from-window.ensures) c.requires.all_usable in
-    (taken_usable c.from-window.result c.in-Some.sequence c.args.bag.now c.take-first.new.self c.in-Some.ensures.first_or_empty all).some
+    (taken_usable c.from-window.result c.in-Some.sequence c.args.bag.now c.take_first.new.self c.in-Some.ensures.first_or_empty all).some
 
-pub put-rest-requires : goal.put-rest-requires
-put-rest-requires c =
+pub put_rest-requires : goal.put_rest-requires
+put_rest-requires c =
     let all = subst (λ (w : ℕ). All (Usable w) (held c.args.bag.now)) (sym c.from-window.ensures) c.requires.all_usable in
-    let usable = taken_usable c.from-window.result c.in-Some.sequence c.args.bag.now c.take-first.new.self c.in-Some.ensures.first_or_empty all in
+    let usable = taken_usable c.from-window.result c.in-Some.sequence c.args.bag.now c.take_first.new.self c.in-Some.ensures.first_or_empty all in
     record { small = omega (arith, div-mul-le_self c.from-window.result c.in-Some.sequence.period); starts = usable.starts }
 
-pub returns-in-default-put-rest : goal.returns-in-default-put-rest
-returns-in-default-put-rest c =
-    let full = crowded c.from-window.result c.in-Some.sequence c.args.bag.now c.take-first.new.self c.in-Some.ensures.first_or_empty c.take-first.ensures.same_memory.same_room c.in-default-put-rest.ensures.rest_or_full in
+pub returns-in_default-put_rest : goal.returns-in_default-put_rest
+returns-in_default-put_rest c =
+    let full = crowded c.from-window.result c.in-Some.sequence c.args.bag.now c.take_first.new.self c.in-Some.ensures.first_or_empty c.take_first.ensures.same_memory.same_room c.in_default-put_rest.ensures.rest_or_full in
     record {
       row_or_refusal = inr (refl, subst (λ (w : ℕ). Crowded w (room c.args.bag.now) (held c.args.bag.now)) c.from-window.ensures full);
-      same_memory = same_memory_trans c.args.bag.now c.take-first.new.self c.put-rest.new.bag c.take-first.ensures.same_memory c.put-rest.ensures.same_memory;
+      same_memory = same_memory_trans c.args.bag.now c.take_first.new.self c.put_rest.new.bag c.take_first.ensures.same_memory c.put_rest.ensures.same_memory;
     }
 
 pub returns : goal.returns
 returns c =
-    let memory = same_memory_trans c.args.bag.now c.take-first.new.self c.put-rest.new.bag c.take-first.ensures.same_memory c.put-rest.ensures.same_memory in
-    let here = placed c.from-window.result c.in-Some.sequence c.args.bag.now c.take-first.new.self c.in-Some.ensures.first_or_empty (c.args.placed + 1) c.put-rest.new.bag memory.same_room c.in-Ok.ensures.rest_or_full in
+    let memory = same_memory_trans c.args.bag.now c.take_first.new.self c.put_rest.new.bag c.take_first.ensures.same_memory c.put_rest.ensures.same_memory in
+    let here = placed c.from-window.result c.in-Some.sequence c.args.bag.now c.take_first.new.self c.in-Some.ensures.first_or_empty (c.args.placed + 1) c.put_rest.new.bag memory.same_room c.in-Ok.ensures.rest_or_full in
     record {
-      row_or_refusal = subst (λ (w : ℕ). Placed (c.args.placed + 1) w (room c.args.bag.now) (held c.args.bag.now) (row_of (c.args.placed + 1) c.from-window.result c.in-Some.sequence) (held c.put-rest.new.bag)) c.from-window.ensures here;
+      row_or_refusal = subst (λ (w : ℕ). Placed (c.args.placed + 1) w (room c.args.bag.now) (held c.args.bag.now) (row_of (c.args.placed + 1) c.from-window.result c.in-Some.sequence) (held c.put_rest.new.bag)) c.from-window.ensures here;
       same_memory = memory;
     }

@@ -7,25 +7,25 @@ use Rattle.sequences.specs.Sequences.{pieces}
 use Rattle.splitting_rule.proofs.Pieces.{piece_starts, pieces_more, too_many}
 use Rattle.splitting.proofs.planner.put_rest.Goals as goal
 
-pub overflow-mul-j : goal.overflow-mul-j
-overflow-mul-j c = omega (arith, piece_starts c.loop-j.j c.args.parts c.args.sequence.period c.args.sequence.start c.loop-j-test.true c.requires.starts)
+pub overflow_mul-j : goal.overflow_mul-j
+overflow_mul-j c = omega (arith, piece_starts c.loop-j.j c.args.parts c.args.sequence.period c.args.sequence.start c.loop-j-test.true c.requires.starts)
 
-pub overflow-add-sequence : goal.overflow-add-sequence
-overflow-add-sequence c = omega (arith, piece_starts c.loop-j.j c.args.parts c.args.sequence.period c.args.sequence.start c.loop-j-test.true c.requires.starts)
+pub overflow_add-sequence : goal.overflow_add-sequence
+overflow_add-sequence c = omega (arith, piece_starts c.loop-j.j c.args.parts c.args.sequence.period c.args.sequence.start c.loop-j-test.true c.requires.starts)
 
 pub loop-j-preserved : goal.loop-j-preserved
 loop-j-preserved c =
-    let put = c.in-ok-put.ensures.held_or_full.one_more in (
+    let put = c.in_ok-put.ensures.held_or_full.one_more in (
       pieces_more c.args.sequence c.args.parts c.loop-j.j (held c.args.bag.now) (held c.loop-j.bag) (held c.put.new.self) c.loop-j.auto.j c.loop-j.invariant.0 put,
       same_memory_trans c.args.bag.now c.loop-j.bag c.put.new.self c.loop-j.invariant.1 c.put.ensures.same_memory,
       omega arith,
     )
 
-pub returns-in-err-put : goal.returns-in-err-put
-returns-in-err-put c =
-    let full = c.in-err-put.ensures.held_or_full in
+pub returns-in_err-put : goal.returns-in_err-put
+returns-in_err-put c =
+    let full = c.in_err-put.ensures.held_or_full in
     record {
-      rest_or_full = exit _ _ c.from-residual.result c.in-err-put.field-0.0 c.from-residual.ensures.1
+      rest_or_full = exit _ _ c.from_residual.result c.in_err-put.field-0.0 c.from_residual.ensures.1
           (too_many c.args.sequence c.args.parts c.loop-j.j (held c.args.bag.now) (held c.loop-j.bag) (room c.args.bag.now) c.loop-j.auto.j c.loop-j-test.true c.loop-j.invariant.0 (full.1 ∙ c.loop-j.invariant.1.same_room));
       same_memory = same_memory_trans c.args.bag.now c.loop-j.bag c.put.new.self c.loop-j.invariant.1 c.put.ensures.same_memory;
     }
