@@ -1,5 +1,5 @@
 -- Closures that can be booked are booked, one after the other.
-use Rattle.std.proofs.Common.{◌≡◌, ℕ, zero, suc, ◌+◌, ◌<◌, ◌≤◌, true, false, cond, not, leb, List, [], ◌∷◌, ◌++◌, map, length, get_or, take, drop, sym, refl, ap, ◌∙◌, subst, arith, length-take-le}
+use Rattle.std.proofs.Common.{◌≡◌, ℕ, zero, suc, ◌+◌, ◌<◌, ◌≤◌, true, false, List, [], ◌∷◌, ◌++◌, map, length, take, drop, sym, refl, ap, ◌∙◌, subst, arith, length-take-le}
 use Rattle.std.proofs.lemmas.List.{take_more, take_all, drop_more, drop_all}
 use Rattle.std.proofs.lemmas.Bool.{lt-leb}
 use Rattle.records.specs.declared.kinds.Closure.{Closure}
@@ -9,7 +9,7 @@ use Rattle.station.specs.declared.call.Call.{Call}
 use Rattle.station.specs.declared.call.Call.TheVariants.{Close}
 use Rattle.station.specs.declared.phase.Phase.TheVariants.{Open}
 use Rattle.station.specs.Calls.{Replied, Run}
-use Rattle.station.specs.States.{State, Told, slip, Is, closes, in_table}
+use Rattle.station.specs.States.{State, Told, slip, closes, in_table}
 use Rattle.station.specs.Tables.{entry_at}
 use Rattle.judging.specs.Judgements.{Bookable}
 use Rattle.judging.specs.Telling.{told_lines, all_lines}

@@ -1,7 +1,7 @@
 -- What the answers of a judging run say is the judgement of the plan.
-use Rattle.std.proofs.Common.{◌≡◌, ℕ, ◌+◌, ◌-◌, ◌*◌, ◌<◌, ◌≤◌, cond, List, [], ◌∷◌, ◌++◌, map, length, Ok, Err, vec_items, All, Vec, sym, refl, ap, ◌∙◌, subst, append-nil, arith}
+use Rattle.std.proofs.Common.{◌≡◌, ℕ, ◌-◌, ◌*◌, ◌<◌, ◌≤◌, cond, List, [], ◌∷◌, ◌++◌, map, length, Ok, vec_items, All, Vec, sym, refl, ap, ◌∙◌, subst, append-nil, arith}
 use Rattle.std.specs.declared.alloc.Global.{Global}
-use Rattle.std.proofs.lemmas.List.Elements.{All-weaker}
+use Rattle.std.proofs.lemmas.List.Elements.{All-head, All-tail, All-weaker}
 use Rattle.std.proofs.lemmas.List.{map-append}
 use Rattle.records.specs.declared.kinds.Closure.{Closure}
 use Rattle.timetable.specs.Closed.{aired}
@@ -16,7 +16,6 @@ use Rattle.station.specs.declared.phase.Phase.TheVariants.{Open, Passed}
 use Rattle.station.specs.Calls.{Replied, Run}
 use Rattle.station.specs.States.{State, Told, found, surveyed, refused, SurveyTold, not_passed, short_scratch, long_period, peak, FindingsTold, few_cells, short_bag, all_found, verdict_told, after_check, with_phase}
 use Rattle.station.specs.States as states
-use Rattle.runs.specs.Rehearsals.{Chosen}
 use Rattle.runs.specs.declared.rehearsal.Script.{Script}
 use Rattle.judging.specs.declared.line.Line.{Line}
 use Rattle.judging.specs.declared.line.Line.TheVariants as line
@@ -30,16 +29,17 @@ use Rattle.judging.proofs.Saying.{lines_append, answers_told}
 few_above : (n b : ℕ) (fs : List Finding) → Ascending fs → All (λ f. (b < f.page) × (f.page ≤ n)) fs → length fs ≤ n - b
 few_above n b [] up all = omega arith
 few_above n b (f ∷ fs) up all =
-    let rest = few_above n f.page fs up.1 (both fs up.0 all.1) in
-    omega (arith, all.0.0, all.0.1)
+    let low : Finding → Type 0 = λ g. (b < g.page) × (g.page ≤ n) in
+    let first = All-head low f fs all in
+    let rest = few_above n f.page fs up.1 (both fs up.0 (All-tail low f fs all)) in
+    omega (arith, first.0, first.1)
   where
     both : (gs : List Finding) → All (λ g. f.page < g.page) gs → All (λ g. (b < g.page) × (g.page ≤ n)) gs → All (λ g. (f.page < g.page) × (g.page ≤ n)) gs
-    both [] x y = tt
-    both (g ∷ gs) x y = ((x.0, y.0.1), both gs x.1 y.1)
+    both gs x y = λ k d lt. (x k d lt, (y k d lt).1)
 
 findings_few : (X : Meaning) (m n : ℕ) (fs : List Finding) → Findings X m n fs → length fs ≤ n
 findings_few X m n fs h =
-    let low = few_above n 0 fs h.ascending (All-weaker _ _ (λ f s. (omega (arith, s.page.0), s.page.1)) fs h.each) in
+    let low = few_above n 0 fs h.ascending (All-weaker (λ f. FirstSlot X m n f.page f.slot) (λ f. (0 < f.page) × (f.page ≤ n)) (λ f s. (omega (arith, s.page.0), s.page.1)) fs h.each) in
     omega arith
 
 never : Passed ≡ Open → ⊥
@@ -118,13 +118,13 @@ pub tells_judges : (M : Meaning) (m n : ℕ) (es : List Closure) (ls : List Line
 tells_judges M m n es ls h b range =
     let c = h.rehearsed.chosen in
     let s = h.scripted in
-    let after = book_all M m n es b (call.Check s.check_cells ∷ []) c.then-state c.first
-    (subst (λ cs. Run (booked M m n []) cs c.first c.then-state) s.opening c.opened) in
-    let v = checks M m n es range s.check_cells c.then-state after.0 s.enough.0 after.1 in
+    let after = book_all M m n es b (call.Check s.check_cells ∷ []) c.then_state c.first
+    (subst (λ cs. Run (booked M m n []) cs c.first c.then_state) s.opening c.opened) in
+    let v = checks M m n es range s.check_cells c.then_state after.0 s.enough.0 after.1 in
     let whole : ls ≡ told_lines (verdict_told v.0) ++ all_lines (said c.rest) =
     h.lines
-    ∙ ap all_lines (sym (answers_told (vec_items h.rehearsal.replies)) ∙ ap said c.all-replies ∙ map-append (λ r. r.answer) c.first c.rest)
+    ∙ ap all_lines (sym (answers_told (vec_items h.rehearsal.replies)) ∙ ap said c.all_replies ∙ map-append (λ r. r.answer) c.first c.rest)
     ∙ lines_append (said c.first) (said c.rest)
     ∙ ap (λ xs. xs ++ all_lines (said c.rest)) (after.2 ∙ v.2) in
     subst (λ xs. Judgement (aired M es) m n xs) (sym whole)
-    (decides M m n es range c.then-state c.last-state c.rest h.script s c.went_on v.0 v.1 v.3)
+    (decides M m n es range c.then_state c.last_state c.rest h.script s c.went_on v.0 v.1 v.3)

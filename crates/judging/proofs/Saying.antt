@@ -2,7 +2,7 @@
 use Rattle.std.proofs.Common.{◌≡◌, ℕ, ◌+◌, ◌<◌, List, [], ◌∷◌, ◌++◌, map, length, get_or, drop, sym, refl, ap, ◌∙◌, append_assoc}
 use Rattle.std.proofs.lemmas.List.{drop_more}
 use Rattle.station.specs.declared.call.Reply.{Reply}
-use Rattle.station.specs.Calls.{Replied, answered, replied}
+use Rattle.station.specs.Calls.{answered, replied}
 use Rattle.station.specs.States.{Told}
 use Rattle.runs.specs.Rehearsals.{told_of}
 use Rattle.judging.specs.Telling.{told_lines, all_lines}

@@ -3,7 +3,6 @@ use Rattle.std.specs.Prelude.{◌≡◌, ℕ, ◌*◌, cond, List, [], ◌∷◌
 use Rattle.std.specs.declared.alloc.Global.{Global}
 use Rattle.records.specs.declared.kinds.Closure.{Closure}
 use Rattle.timetable.specs.Meaning.{Meaning}
-use Rattle.station.specs.declared.call.Call.{Call}
 use Rattle.station.specs.declared.call.Call.TheVariants.{Close, Check, Findings, Survey}
 use Rattle.station.specs.States.{Told, slip, reopened, passes, found, surveyed, goes_on_air, ticked, withdrawn, refused}
 use Rattle.runs.specs.Rehearsals.{told_of, Rehearsed}

@@ -1,16 +1,16 @@
-use Rattle.std.proofs.Common.{◌≡◌, [], ◌∷◌, ◌++◌, ap, ◌∙◌}
+use Rattle.std.proofs.Common.{[], ◌∷◌, ◌++◌, ap, ◌∙◌}
 use Rattle.station.specs.declared.call.Call.TheVariants.{Check, Findings, Survey}
 use Rattle.judging.proofs.script.script_of.Goals as goal
 
 pub returns : goal.returns
 returns c = record {
   judging_calls = record {
-    check_cells = c.in-ok-cells.field-0;
-    survey_cells = c.in-ok-cells-2.field-0;
-    finding_cells = c.in-ok-cells-3.field-0;
-    enough = (c.in-ok-cells.ensures.two_a_page, c.in-ok-cells-2.ensures.two_a_page, c.in-ok-cells-3.ensures.two_a_page);
-    opening = c.in-ok-push.ensures.items ∙ ap (λ cs. cs ++ Check c.in-ok-cells.field-0 ∷ []) c.in-ok-opening.ensures.closes_each;
-    passed = c.in-ok-push-2.ensures.items ∙ ap (λ cs. cs ++ Survey c.in-ok-cells-2.field-0 ∷ []) c.new-passed.ensures.items;
-    otherwise = c.in-ok-push-3.ensures.items ∙ ap (λ cs. cs ++ Findings c.in-ok-cells-3.field-0 c.args.pages ∷ []) c.new-otherwise.ensures.items;
+    check_cells = c.in_ok-cells.field-0;
+    survey_cells = c.in_ok-cells-2.field-0;
+    finding_cells = c.in_ok-cells-3.field-0;
+    enough = (c.in_ok-cells.ensures.two_a_page, c.in_ok-cells-2.ensures.two_a_page, c.in_ok-cells-3.ensures.two_a_page);
+    opening = c.in_ok-push.ensures.items ∙ ap (λ cs. cs ++ Check c.in_ok-cells.field-0 ∷ []) c.in_ok-opening.ensures.closes_each;
+    passed = c.in_ok-push-2.ensures.items ∙ ap (λ cs. cs ++ Survey c.in_ok-cells-2.field-0 ∷ []) c.new-passed.ensures.items;
+    otherwise = c.in_ok-push-3.ensures.items ∙ ap (λ cs. cs ++ Findings c.in_ok-cells-3.field-0 c.args.pages ∷ []) c.new-otherwise.ensures.items;
   };
 }

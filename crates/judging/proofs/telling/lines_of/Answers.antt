@@ -1,4 +1,4 @@
-use Rattle.std.proofs.Common.{◌≡◌, ◌+◌, ◌++◌, drop, vec_items, sym, ap, ◌∙◌, append_assoc, append-nil, arith}
+use Rattle.std.proofs.Common.{◌+◌, ◌++◌, drop, vec_items, sym, ap, ◌∙◌, append_assoc, append-nil, arith}
 use Rattle.std.proofs.lemmas.List.{drop_all}
 use Rattle.station.specs.Calls.{answered}
 use Rattle.runs.specs.Rehearsals.{told_of}
@@ -14,7 +14,7 @@ loop-reply-preserved c =
     c.loop-reply.invariant
     ∙ ap (λ ls. before ++ ls) (lines_more rs i c.reply-item.result c.loop-reply-test.true c.reply-item.is)
     ∙ sym (append_assoc before (told_lines (answered c.reply-item.result.answer)) (all_lines (told_of (drop (i + 1) rs))))
-    ∙ ap (λ ls. ls ++ all_lines (told_of (drop (i + 1) rs))) (sym c.in-ok-note-answer.ensures.says_answer)
+    ∙ ap (λ ls. ls ++ all_lines (told_of (drop (i + 1) rs))) (sym c.in_ok-note_answer.ensures.says_answer)
 
 pub returns : goal.returns
 returns c = record {

@@ -1,4 +1,4 @@
-use Rattle.std.proofs.Common.{◌≡◌, [], ◌∷◌, ◌++◌, map, get_or, take, vec_items, sym, ap, ◌∙◌, append_assoc, arith}
+use Rattle.std.proofs.Common.{[], ◌∷◌, ◌++◌, map, get_or, take, vec_items, sym, ap, ◌∙◌, append_assoc, arith}
 use Rattle.std.proofs.lemmas.List.{take_more, take_all, map_push}
 use Rattle.judging.specs.Judgements.{miss}
 use Rattle.judging.proofs.telling.note_findings.Goals as goal
@@ -9,7 +9,7 @@ loop-finding-preserved c =
     let i = c.loop-finding.finding-index in
     let before = vec_items c.args.lines.now in
     let x = miss (get_or fs i (record { page = 0; slot = 0 })) in
-    c.in-ok-push.ensures.items
+    c.in_ok-push.ensures.items
     ∙ ap (λ ls. ls ++ x ∷ []) c.loop-finding.invariant
     ∙ append_assoc before (map miss (take i fs)) (x ∷ [])
     ∙ ap (λ ls. before ++ ls) (sym (ap (λ gs. map miss gs) (take_more fs i (record { page = 0; slot = 0 }) (omega arith)) ∙ map_push miss (take i fs) _))
