@@ -1,9 +1,9 @@
 -- The check has one answer.
-use Rattle.std.proofs.Common.{◌≡◌, ℕ, ◌<◌, List, [], ◌∷◌, Ok, Err, sym, refl, ap, ◌∙◌, subst, inl, inr, ⊎_elim, arith}
+use Rattle.std.proofs.Common.{◌≡◌, ℕ, ◌<◌, [], ◌∷◌, Err, sym, refl, ap, ◌∙◌, subst, inl, inr, ⊎_elim, arith}
 use Rattle.std.proofs.lemmas.Bool.{cases_order}
 use Rattle.timetable.specs.Meaning.{Meaning}
 use Rattle.timetable.specs.Windows.{Starves, Stray, Starving, FirstStray, FirstStarving}
-use Rattle.checker.specs.Judged.{Verdict, Judged, out_of_range, short_scratch, stray, starving, passed}
+use Rattle.checker.specs.Judged.{Verdict, out_of_range, short_scratch, stray, starving, passed}
 use Rattle.worked_all.specs.Verdict.{CheckHasOneAnswer}
 
 abbrev stray_told : ℕ → ℕ → ℕ → Verdict

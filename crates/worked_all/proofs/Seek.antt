@@ -1,5 +1,5 @@
 -- What is looked for in order is the first, and so the computed verdict is the check's.
-use Rattle.std.proofs.Common.{◌≡◌, ℕ, zero, suc, ◌+◌, ◌-◌, ◌*◌, ◌%◌, ◌<◌, ◌≤◌, Bool, true, false, cond, not, eqb, ltb, leb, Decides, sym, refl, subst, ⊎_elim, mod-lt, arith}
+use Rattle.std.proofs.Common.{◌≡◌, ℕ, zero, suc, ◌+◌, ◌-◌, ◌*◌, ◌%◌, ◌<◌, ◌≤◌, Bool, true, false, not, eqb, ltb, leb, Decides, sym, refl, subst, ⊎_elim, mod-lt, arith}
 use Rattle.std.proofs.lemmas.Bool.Decides.{Decides-eqb, Decides-like, Decides-not, Decides-below_or, Decides-below_and, not_from_Decides}
 use Rattle.std.proofs.lemmas.Bool.{cases_eq, cond_both, ltb-true, ltb-false, leb-true, leb-false, lt-ltb, le-leb, both_ways, and_parts, and_from}
 use Rattle.timetable.specs.Meaning.{Meaning, Lawful}

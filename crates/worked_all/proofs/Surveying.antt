@@ -1,9 +1,8 @@
 -- The computed survey is right, and a survey has one answer.
-use Rattle.std.proofs.Common.{◌≡◌, ℕ, zero, suc, ◌+◌, ◌-◌, ◌<◌, ◌≤◌, ltb, sym, refl, ap, subst, ⊎_elim, arith}
+use Rattle.std.proofs.Common.{◌≡◌, ℕ, zero, suc, ◌-◌, ◌<◌, ◌≤◌, ltb, sym, refl, subst, ⊎_elim, arith}
 use Rattle.std.proofs.lemmas.Bool.{cases_eq, cases_order, cond_both, ltb-true, ltb-false}
-use Rattle.timetable.specs.Meaning.{Meaning}
 use Rattle.timetable.specs.Closed.{line}
-use Rattle.survey.specs.Surveys.{peak_from, Peak, PeakOf}
+use Rattle.survey.specs.Surveys.{peak_from, Peak}
 use Rattle.worked_all.specs.Surveyed.{greatest_of, greatest, SurveyComputed, SurveyHasOneAnswer}
 
 module _ (f : ℕ → ℕ) where

@@ -1,5 +1,5 @@
 -- The check's answer, computed: what it names is looked for among all channels, slots and pages, in order.
-use Rattle.std.specs.Prelude.{◌≡◌, ℕ, zero, suc, ◌+◌, ◌*◌, Bool, true, false, cond, not, ◌&&◌, ◌||◌, ltb, leb, List, [], ◌∷◌, Ok, Err, ◌==◌, nat_le, nat_lt}
+use Rattle.std.specs.Prelude.{◌≡◌, ℕ, zero, suc, ◌+◌, ◌*◌, Bool, true, false, cond, not, ◌&&◌, ◌||◌, ltb, leb, [], ◌∷◌, Ok, Err, ◌==◌, nat_le, nat_lt}
 use Rattle.timetable.specs.Meaning.{Meaning, Lawful}
 use Rattle.timetable.specs.Windows.{window}
 use Rattle.checker.specs.Judged.{Verdict, Judged}

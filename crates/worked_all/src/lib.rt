@@ -1,3 +1,5 @@
+#![tactic(auto)]
+
 ghost use Rattle.std.specs.Prelude.{◌≡◌, length};
 ghost use Rattle.worked_all.specs.Surveyed.{SurveyComputed, SurveyHasOneAnswer};
 ghost use Rattle.worked_all.specs.Verdict.{CheckComputed, CheckHasOneAnswer};
