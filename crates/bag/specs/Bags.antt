@@ -1,5 +1,5 @@
 -- What a bag holds, and what its calls make of it. The order in which the held records lie is of no account: the promises
--- speak of them up to `Shuffled`.
+-- speak of them up to `IsPermutation`.
 use Rattle.std.specs.Prelude.{◌≡◌, ℕ, ◌<◌, Bool, false, List, [], ◌∷◌, length, take, Some, None, Ok, Err, All, Option, Result}
 use Rattle.std.specs.List.Sorted.{IsPermutation}
 use Rattle.bag.specs.Places.{FreeFrom}

@@ -1,4 +1,6 @@
 // Tests of bags and of plans by splitting.
+#![tactic(auto)]
+
 ghost use Rattle.std.specs.Prelude.{◌≡◌, ℕ, ◌<◌, length, slice_index_or};
 
 use bag::bag::Bag;
