@@ -1,3 +1,5 @@
+#![tactic(auto)]
+
 // Tests of stations over timetables that are written out, most of them over a loop of five pages: one channel, delay 4, period 12.
 #[cfg(test)]
 mod tests {
