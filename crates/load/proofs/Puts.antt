@@ -1,5 +1,5 @@
 -- From the bytes of a plan to the answer on writing it.
-use Rattle.std.proofs.Common.{◌≡◌, ℕ, ◌<◌, List, [], ◌∷◌, ◌++◌, length, drop, Some, None, sym, ap, ◌∙◌, subst, inl, inr, arith}
+use Rattle.std.proofs.Common.{◌≡◌, ℕ, List, [], ◌∷◌, ◌++◌, length, drop, Some, None, sym, ap, ◌∙◌, subst, inl, inr, arith}
 use Rattle.records.specs.Faults.{told}
 use Rattle.records.specs.declared.fault.Fault.{Fault}
 use Rattle.format.specs.declared.plan.Plan.{Plan}

@@ -1,5 +1,5 @@
 -- The closures of a plan, judged in their order.
-use Rattle.std.specs.Prelude.{◌≡◌, ℕ, ◌<◌, ◌≤◌, true, false, List, [], length, take, Option, MatchOption, slice_index_or}
+use Rattle.std.specs.Prelude.{◌≡◌, ℕ, ◌<◌, ◌≤◌, true, false, List, length, take, Option, MatchOption, slice_index_or}
 use Rattle.records.specs.declared.kinds.Closure.{Closure}
 use Rattle.timetable.specs.Closed.{closed_in}
 use Rattle.load.specs.declared.fault.ClosureFault.{ClosureFault}

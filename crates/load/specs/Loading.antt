@@ -1,5 +1,5 @@
 -- What loading a plan file answers.
-use Rattle.std.specs.Prelude.{◌≡◌, ℕ, ◌<◌, List, [], ◌∷◌, ◌++◌, map, length, take, vec_items}
+use Rattle.std.specs.Prelude.{◌≡◌, ℕ, List, [], ◌∷◌, ◌++◌, map, length, take, vec_items}
 use Rattle.format.specs.declared.plan.Plan.{Plan}
 use Rattle.format.specs.Items.{Item, film, part, closure}
 use Rattle.format.specs.Format.{encoded, Refused}

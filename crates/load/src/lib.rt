@@ -1,4 +1,6 @@
 // From a plan file to a plan that can be sent: what is read is planned, and its closures are judged.
+#![tactic(auto)]
+
 mod closing;
 pub mod fault;
 pub mod loading;

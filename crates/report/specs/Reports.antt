@@ -1,5 +1,5 @@
 -- The lines on a file.
-use Rattle.std.specs.Prelude.{◌≡◌, ℕ, List, [], ◌∷◌, ◌++◌, Option}
+use Rattle.std.specs.Prelude.{◌≡◌, ℕ, List, [], ◌∷◌, Option}
 use Rattle.load.specs.declared.loading.Loaded.{Loaded}
 use Rattle.load.specs.Loading.{Loads, LoadRefused}
 use Rattle.schedule.specs.Schedules.{meant}

@@ -1,4 +1,6 @@
 // What the bench prints of a plan file, as values.
+#![tactic(auto)]
+
 pub mod fault;
 pub mod line;
 pub mod lines;

@@ -8,39 +8,39 @@ use Rattle.load.specs.Saving.{Unsaved, unfit, Saves, told_save}
 use Rattle.load.proofs.Puts.{not_made, saves_of, no_room_of}
 use Rattle.load.proofs.saving.save.Goals as goal
 
-pub returns-in-err-bytes : goal.returns-in-err-bytes
-returns-in-err-bytes c =
+pub returns-in_err-bytes : goal.returns-in_err-bytes
+returns-in_err-bytes c =
     let p = c.args.plan.now in
     let out = c.args.out.now in
-    let f = c.in-err-bytes.field-0.0 in
+    let f = c.in_err-bytes.field-0.0 in
     record {
-      saves_or_refuses = exit (Saves p out out) (λ f. Unsaved p (length out) (told_save f).0 (told_save f).1 × (out ≡ out)) c.from-residual.result (Unfit (Reading f)) c.from-residual.ensures.1
-          (not_made p (length out) f c.in-err-bytes.ensures.makes_the_bytes, refl);
+      saves_or_refuses = exit (Saves p out out) (λ f. Unsaved p (length out) (told_save f).0 (told_save f).1 × (out ≡ out)) c.from_residual.result (Unfit (Reading f)) c.from_residual.ensures.1
+          (not_made p (length out) f c.in_err-bytes.ensures.makes_the_bytes, refl);
     }
 
-pub returns-in-err-load : goal.returns-in-err-load
-returns-in-err-load c =
+pub returns-in_err-load : goal.returns-in_err-load
+returns-in_err-load c =
     let p = c.args.plan.now in
     let out = c.args.out.now in
-    let f = c.in-err-load.field-0.0 in
-    let same = c.as-slice.ensures.value ∙ c.in-ok-bytes.ensures.makes_the_bytes in
+    let f = c.in_err-load.field-0.0 in
+    let same = c.as_slice.ensures.value ∙ c.in_ok-bytes.ensures.makes_the_bytes in
     record {
-      saves_or_refuses = exit (Saves p out out) (λ f. Unsaved p (length out) (told_save f).0 (told_save f).1 × (out ≡ out)) c.from-residual-in-err-load.result (Unfit f) c.from-residual-in-err-load.ensures.1
-          (unfit _ _ (subst (λ l. LoadRefused l (told_load f).0 (told_load f).1) same c.in-err-load.ensures.loads_or_refuses), refl);
+      saves_or_refuses = exit (Saves p out out) (λ f. Unsaved p (length out) (told_save f).0 (told_save f).1 × (out ≡ out)) c.from_residual-in_err-load.result (Unfit f) c.from_residual-in_err-load.ensures.1
+          (unfit _ _ (subst (λ l. LoadRefused l (told_load f).0 (told_load f).1) same c.in_err-load.ensures.loads_or_refuses), refl);
     }
 
 pub returns-in-Some : goal.returns-in-Some
 returns-in-Some c =
     let p = c.args.plan.now in
-    let l = c.in-ok-load.field-0 in
-    let made = c.in-ok-bytes.ensures.makes_the_bytes in
-    let loads = subst (λ x. Loads x l) (c.as-slice.ensures.value ∙ made) c.in-ok-load.ensures.loads_or_refuses in
-    record { saves_or_refuses = saves_of p l _ c.args.out.now _ _ (c.as-slice-2.ensures.value ∙ made) loads c.in-Some.ensures.puts_all_or_nothing }
+    let l = c.in_ok-load.field-0 in
+    let made = c.in_ok-bytes.ensures.makes_the_bytes in
+    let loads = subst (λ x. Loads x l) (c.as_slice.ensures.value ∙ made) c.in_ok-load.ensures.loads_or_refuses in
+    record { saves_or_refuses = saves_of p l _ c.args.out.now _ _ (c.as_slice-2.ensures.value ∙ made) loads c.in-Some.ensures.puts_all_or_nothing }
 
 pub returns : goal.returns
 returns c =
     let p = c.args.plan.now in
-    let l = c.in-ok-load.field-0 in
-    let made = c.in-ok-bytes.ensures.makes_the_bytes in
-    let loads = subst (λ x. Loads x l) (c.as-slice.ensures.value ∙ made) c.in-ok-load.ensures.loads_or_refuses in
-    record { saves_or_refuses = no_room_of p l _ c.args.out.now _ (c.as-slice-2.ensures.value ∙ made) loads c.in-None.ensures.puts_all_or_nothing }
+    let l = c.in_ok-load.field-0 in
+    let made = c.in_ok-bytes.ensures.makes_the_bytes in
+    let loads = subst (λ x. Loads x l) (c.as_slice.ensures.value ∙ made) c.in_ok-load.ensures.loads_or_refuses in
+    record { saves_or_refuses = no_room_of p l _ c.args.out.now _ (c.as_slice-2.ensures.value ∙ made) loads c.in-None.ensures.puts_all_or_nothing }

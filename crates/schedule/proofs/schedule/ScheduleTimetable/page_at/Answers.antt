@@ -10,7 +10,7 @@ returns-in-Rows c =
     let k = c.args.channel in
     let t = c.args.slot in
     record {
-      answers_page = c.page-at-in-Rows.ensures.answers_page ∙ ap (λ l. (rows_timetable l plan.channels plan.period).page k t) c.as-slice.ensures.value ∙ ap (λ s. (meant s).page k t) (sym c.in-Rows.is);
+      answers_page = c.page_at-in-Rows.ensures.answers_page ∙ ap (λ l. (rows_timetable l plan.channels plan.period).page k t) c.as_slice.ensures.value ∙ ap (λ s. (meant s).page k t) (sym c.in-Rows.is);
     }
 
 pub returns-in-Tree : goal.returns-in-Tree
@@ -19,5 +19,5 @@ returns-in-Tree c =
     let k = c.args.channel in
     let t = c.args.slot in
     record {
-      answers_page = c.page-at-in-Tree.ensures.answers_page ∙ ap (λ l. (tree l plan.channels plan.period).page k t) c.as-slice-in-Tree.ensures.value ∙ ap (λ s. (meant s).page k t) (sym c.in-Tree.is);
+      answers_page = c.page_at-in-Tree.ensures.answers_page ∙ ap (λ l. (tree l plan.channels plan.period).page k t) c.as_slice-in-Tree.ensures.value ∙ ap (λ s. (meant s).page k t) (sym c.in-Tree.is);
     }
