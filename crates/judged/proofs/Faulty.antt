@@ -1,5 +1,5 @@
 -- The line on the fault of a file.
-use Rattle.std.proofs.Common.{◌≡◌, ℕ, List, length, sym, ap, subst, arith}
+use Rattle.std.proofs.Common.{ℕ, List, length, sym, ap, subst, arith}
 use Rattle.load.specs.Loading.{LoadRefused}
 use Rattle.judged.specs.declared.fault.ReportFault.{ReportFault}
 use Rattle.judged.specs.declared.fault.ReportFault.TheVariants.{Loading, Memory}

@@ -1,5 +1,5 @@
 -- The numbers of a plan that is loaded are in range, and its closures can be booked.
-use Rattle.std.proofs.Common.{◌≡◌, ℕ, ◌≤◌, true, ltb, leb, List, length, vec_items, sym, ap, ◌∙◌, subst, arith}
+use Rattle.std.proofs.Common.{◌≡◌, ℕ, ◌≤◌, true, List, length, vec_items, sym, ap, ◌∙◌, subst, arith}
 use Rattle.std.proofs.lemmas.Bool.{and_from, le-leb, lt-ltb}
 use Rattle.records.specs.declared.kinds.Closure.{Closure}
 use Rattle.records.specs.declared.kinds.Film.{Film}

@@ -14,5 +14,5 @@ returns-in-Err c =
     let file = c.args.bytes.now in
     let f = c.in-Err.fault in
     record {
-      reports = IfOk-weaker c.fault-line.result (λ v. FaultLine f (vec_items v)) (λ v. Reported file (vec_items v)) (λ v l. fault_reported file f (vec_items v) c.in-Err.ensures.tells_the_plan l) c.fault-line.ensures.tells_the_fault;
+      reports = IfOk-weaker c.fault_line.result (λ v. FaultLine f (vec_items v)) (λ v. Reported file (vec_items v)) (λ v l. fault_reported file f (vec_items v) c.in-Err.ensures.tells_the_plan l) c.fault_line.ensures.tells_the_fault;
     }
