@@ -1,7 +1,10 @@
 // bench [FILE]: prints what is to be said of a plan file, or of standard input where no file is named.
+#![tactic(auto)]
+
 use anyhow::anyhow;
 use report::lines::report;
 use std::io::Read;
+use std::process::ExitCode;
 use std::{env, fs};
 
 // The bytes to look at, or `None` where there is more than one argument.
@@ -38,10 +41,12 @@ fn run(rt: &HostRuntime) -> anyhow::Result<()> {
 }
 
 // An error is one line on standard error, and status 1.
-fn main(rt: HostRuntime) -> anyhow::Result<()> {
-    let ran = run(&rt);
-    if let Err(e) = &ran {
-        eprintln!(rt; "{e}")?;
+fn main(rt: HostRuntime) -> ExitCode {
+    match run(&rt) {
+        Ok(()) => ExitCode::SUCCESS,
+        Err(e) => {
+            let _ = eprintln!(rt; "{e}");
+            ExitCode::FAILURE
+        }
     }
-    ran
 }
