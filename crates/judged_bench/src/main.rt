@@ -1,7 +1,10 @@
-// bench [FILE]: prints what is to be said of a plan file, or of standard input where no file is named.
+// judged_bench [FILE]: prints what is to be said of a plan file, with the judgement of its plan, or of standard input where no file is named.
+#![tactic(auto)]
+
 use anyhow::anyhow;
 use judged::lines::report;
 use std::io::Read;
+use std::process::ExitCode;
 use std::{env, fs};
 
 // The bytes to look at, or `None` where there is more than one argument.
@@ -33,15 +36,17 @@ fn print_report(rt: &HostRuntime, bytes: &[u8]) -> anyhow::Result<()> {
 fn run(rt: &HostRuntime) -> anyhow::Result<()> {
     match input(rt)? {
         Some(bytes) => print_report(rt, bytes.as_slice()),
-        None => Err(anyhow!("usage: bench [FILE]")),
+        None => Err(anyhow!("usage: judged_bench [FILE]")),
     }
 }
 
 // An error is one line on standard error, and status 1.
-fn main(rt: HostRuntime) -> anyhow::Result<()> {
-    let ran = run(&rt);
-    if let Err(e) = &ran {
-        eprintln!(rt; "{e}")?;
+fn main(rt: HostRuntime) -> ExitCode {
+    match run(&rt) {
+        Ok(()) => ExitCode::SUCCESS,
+        Err(e) => {
+            let _ = eprintln!(rt; "{e}");
+            ExitCode::FAILURE
+        }
     }
-    ran
 }

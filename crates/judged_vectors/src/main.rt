@@ -1,5 +1,7 @@
-// Reads plan files written as hexadecimal text, one to a line, and prints what the bench would print of each.
+// Reads plan files written as hexadecimal text, one to a line, and prints what judged_bench would print of each.
 // A line is a name and then pieces of the file: hexadecimal digits, or digits, an `x` and how often they are repeated.
+#![tactic(auto)]
+
 use anyhow::anyhow;
 use judged::lines::report;
 use std::io::{BufRead, BufReader};
