@@ -1,4 +1,6 @@
 // Greatest common divisors and least common multiples, for every pair of numbers, and never past what a number holds.
+#![tactic(auto)]
+
 ghost use Rattle.numbers.specs.Divisors.{GreatestCommonDivisor, LeastWithin};
 
 // The greatest number that divides both, by which every other that does divides too; 0 where both are 0.

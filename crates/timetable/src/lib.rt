@@ -1,4 +1,6 @@
 // Timetables: which page each channel carries in each slot, over and over.
+#![tactic(auto)]
+
 pub mod aired;
 pub mod grid;
 pub mod interface;
