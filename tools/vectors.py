@@ -161,18 +161,19 @@ def planned():
     yield 'closed-all', f'{film(1, 1, 1)} {row(1, 1, 0, 64)} {"".join(closure(1, t) for t in range(64))} {END}'
 
 
-def texts():
+def texts(named, report):
     given, wanted = [], []
-    for name, text in list(cases()) + list(planned()):
+    for name, text in named:
         given.append(f'{name} {" ".join(text.split())}'.rstrip())
         wanted.append('\n'.join([name] + ['  ' + line for line in report(octets(text))]))
     return '\n'.join(given) + '\n', '\n'.join(wanted) + '\n'
 
 
-def main():
-    folder = os.path.join(os.path.dirname(os.path.abspath(__file__)), '..', 'crates', 'vectors')
+def main(crate, named, report):
+    """Writes the cases and what is expected of them into a crate, or says whether they stand there."""
+    folder = os.path.join(os.path.dirname(os.path.abspath(__file__)), '..', 'crates', crate)
     same = True
-    for name, text in zip(('stdin', 'stdout'), texts()):
+    for name, text in zip(('stdin', 'stdout'), texts(named, report)):
         path = os.path.join(folder, name)
         if '--check' in sys.argv[1:]:
             same = same and os.path.exists(path) and open(path).read() == text
@@ -183,4 +184,5 @@ def main():
     sys.exit(0 if same else 1)
 
 
-main()
+if __name__ == '__main__':
+    main('vectors', [*cases(), *planned()], report)
