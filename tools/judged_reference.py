@@ -6,7 +6,8 @@ judged_reference.py FILE..     prints what the second bench should print of each
 """
 import sys
 
-from reference import Fault, judge_closures, number, plan_period, read
+import reference
+from reference import number
 
 
 def pagoda_lines(delay, counts, period):
@@ -116,29 +117,22 @@ def survey(lines, delay, pages):
     return max(peaks), peaks.index(max(peaks))
 
 
-def report(data):
-    try:
-        film, sort, parts, closures = read(data)
-        period = plan_period(film, sort, parts)
-        judge_closures(closures, film[2], period)
-    except Fault as fault:
-        return ['FAULT ' + ' '.join(map(str, fault.numbers))]
+def judgement(film, sort, parts, closures, period):
     delay, pages, _ = film
     lines = plan_lines(film, sort, parts, period)
     for _, channel, slot in closures:
         lines[slot][channel - 1] = 0
     stray, missing = first_stray(lines, pages), findings(lines, delay, pages)
-    out = ['FILM %d %d %d' % film, 'PERIOD %d' % period]
+    misses = ['MISS %d %d' % finding for finding in missing]
     if stray:
-        out.append('CHECK STRAY %d %d %d' % stray)
-    elif missing:
-        out.append('CHECK STARVED %d %d' % missing[0])
-    else:
-        out.append('CHECK PASS')
-    out += ['MISS %d %d' % finding for finding in missing]
-    if not stray and not missing:
-        out.append('STOCK LONG' if period > 4096 else 'STOCK %d %d' % survey(lines, delay, pages))
-    return out + ['WAIT %d' % delay]
+        return ['CHECK STRAY %d %d %d' % stray, *misses]
+    if missing:
+        return ['CHECK STARVED %d %d' % missing[0], *misses]
+    return ['CHECK PASS', 'STOCK LONG' if period > 4096 else 'STOCK %d %d' % survey(lines, delay, pages)]
+
+
+def report(data):
+    return reference.report(data, judgement)
 
 
 if __name__ == '__main__':

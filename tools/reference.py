@@ -136,14 +136,22 @@ def judge_closures(closures, channels, period):
         seen.add((channel, slot))
 
 
-def report(data):
+def loaded(data):
+    """The film, the sort, the plan records, the closures and the period of a file that loads."""
+    film, sort, parts, closures = read(data)
+    period = plan_period(film, sort, parts)
+    judge_closures(closures, film[2], period)
+    return film, sort, parts, closures, period
+
+
+def report(data, told=lambda film, sort, parts, closures, period: []):
+    """The lines on a file; of one that loads, what is told of it stands between the period and the wait."""
     try:
-        film, sort, parts, closures = read(data)
-        period = plan_period(film, sort, parts)
-        judge_closures(closures, film[2], period)
+        film, sort, parts, closures, period = loaded(data)
     except Fault as fault:
         return ['FAULT ' + ' '.join(map(str, fault.numbers))]
-    return ['FILM %d %d %d' % film, 'PERIOD %d' % period, 'WAIT %d' % film[0]]
+    judged = told(film, sort, parts, closures, period)
+    return ['FILM %d %d %d' % film, 'PERIOD %d' % period, *judged, 'WAIT %d' % film[0]]
 
 
 if __name__ == '__main__':
