@@ -6,6 +6,7 @@ ghost use Rattle.std.proofs.Common.{rules};
 use records::kinds::*;
 use std::alloc::AllocError;
 
+// Kept so: two functions, since `to_be_bytes` is no method of a trait, and without them the check does not see that the format's n / 256 is its n / 256 % 256.
 fn bytes_of_u16(n: u16) -> [u8; 2]
     ensures highest_byte_first { result ≡ two n }
 {
@@ -20,35 +21,30 @@ fn bytes_of_u32(n: u32) -> [u8; 4]
 
 // One kind of record.
 pub trait Record: Sized {
+    // the kind byte
     const KIND: u8;
 
-    const LENGTH: usize;
-
-    // the kind byte
-    ghost tag: { ℕ };
+    ghost KIND: { ℕ };
 
     // the length of a body
-    ghost size: { ℕ };
+    const LENGTH: usize;
+
+    ghost LENGTH: { ℕ };
 
     // the bytes of a record's body
     ghost body: { Self → List ℕ };
 
-    fn kind_byte() -> u8
-        ensures is_tag { result ≡ tag };
-
-    fn body_length() -> usize
-        ensures is_size { result ≡ size }
-        ensures is_small { result ≤ 255 };
-
     // The record with this body, where the body has the right length.
     fn from_body(bytes: &[u8]) -> Option<Self>
-        ensures has_body { MatchOption result (length bytes.now ≢ size) (λ x. body x ≡ bytes.now) };
+        ensures has_body { MatchOption result (length bytes.now ≢ LENGTH) (λ x. body x ≡ bytes.now) };
 
     // Appends the body, or nothing where there is no memory for it.
     fn append_body(&self, out: &mut Vec<u8>) -> Result<(), AllocError>
         ensures appends_all_or_nothing { out.new.items ≡ (if is_ok result then out.old.items ++ body self.now else out.old.items) };
 
-    ghost sized: { (x : Self) → length (body x) ≡ size };
+    ghost small: { LENGTH ≤ 255 };
+
+    ghost sized: { (x : Self) → length (body x) ≡ LENGTH };
 
     ghost apart: { (x y : Self) → body x ≡ body y → x ≡ y };
 }
@@ -58,34 +54,28 @@ impl Record for Film {
 
     const LENGTH: usize = 5;
 
-    ghost tag = { 1 };
+    ghost KIND = { 1 };
 
-    ghost size = { 5 };
+    ghost LENGTH = { 5 };
 
     ghost body = { film_body };
+
+    ghost small = { Prim.search rules };
 
     ghost sized = { Prim.search rules };
 
     ghost apart = { Prim.search rules };
 
-    fn kind_byte() -> u8 {
-        Self::KIND
-    }
-
-    fn body_length() -> usize {
-        Self::LENGTH
-    }
-
     fn from_body(bytes: &[u8]) -> Option<Film> {
-        let [m0, m1, n0, n1, channels] = bytes else {
+        let &[m0, m1, n0, n1, channels] = bytes else {
             return None;
         };
-        let delay = u16::from_be_bytes([*m0, *m1]);
-        let pages = u16::from_be_bytes([*n0, *n1]);
+        let delay = u16::from_be_bytes([m0, m1]);
+        let pages = u16::from_be_bytes([n0, n1]);
         Some(Film {
             delay,
             pages,
-            channels: *channels,
+            channels,
         })
     }
 
@@ -101,31 +91,23 @@ impl Record for Channel {
 
     const LENGTH: usize = 1;
 
-    ghost tag = { 2 };
+    ghost KIND = { 2 };
 
-    ghost size = { 1 };
+    ghost LENGTH = { 1 };
 
     ghost body = { channel_body };
+
+    ghost small = { Prim.search rules };
 
     ghost sized = { Prim.search rules };
 
     ghost apart = { Prim.search rules };
 
-    fn kind_byte() -> u8 {
-        Self::KIND
-    }
-
-    fn body_length() -> usize {
-        Self::LENGTH
-    }
-
     fn from_body(bytes: &[u8]) -> Option<Channel> {
-        let [subchannels] = bytes else {
+        let &[subchannels] = bytes else {
             return None;
         };
-        Some(Channel {
-            subchannels: *subchannels,
-        })
+        Some(Channel { subchannels })
     }
 
     fn append_body(&self, out: &mut Vec<u8>) -> Result<(), AllocError> {
@@ -138,34 +120,28 @@ impl Record for Row {
 
     const LENGTH: usize = 11;
 
-    ghost tag = { 3 };
+    ghost KIND = { 3 };
 
-    ghost size = { 11 };
+    ghost LENGTH = { 11 };
 
     ghost body = { row_body };
+
+    ghost small = { Prim.search rules };
 
     ghost sized = { Prim.search rules };
 
     ghost apart = { Prim.search rules };
 
-    fn kind_byte() -> u8 {
-        Self::KIND
-    }
-
-    fn body_length() -> usize {
-        Self::LENGTH
-    }
-
     fn from_body(bytes: &[u8]) -> Option<Row> {
-        let [p0, p1, channel, s0, s1, s2, s3, q0, q1, q2, q3] = bytes else {
+        let &[p0, p1, channel, s0, s1, s2, s3, q0, q1, q2, q3] = bytes else {
             return None;
         };
-        let page = u16::from_be_bytes([*p0, *p1]);
-        let start = u32::from_be_bytes([*s0, *s1, *s2, *s3]);
-        let period = u32::from_be_bytes([*q0, *q1, *q2, *q3]);
+        let page = u16::from_be_bytes([p0, p1]);
+        let start = u32::from_be_bytes([s0, s1, s2, s3]);
+        let period = u32::from_be_bytes([q0, q1, q2, q3]);
         Some(Row {
             page,
-            channel: *channel,
+            channel,
             start,
             period,
         })
@@ -184,29 +160,23 @@ impl Record for Leaf {
 
     const LENGTH: usize = 2;
 
-    ghost tag = { 4 };
+    ghost KIND = { 4 };
 
-    ghost size = { 2 };
+    ghost LENGTH = { 2 };
 
     ghost body = { leaf_body };
+
+    ghost small = { Prim.search rules };
 
     ghost sized = { Prim.search rules };
 
     ghost apart = { Prim.search rules };
 
-    fn kind_byte() -> u8 {
-        Self::KIND
-    }
-
-    fn body_length() -> usize {
-        Self::LENGTH
-    }
-
     fn from_body(bytes: &[u8]) -> Option<Leaf> {
-        let [p0, p1] = bytes else {
+        let &[p0, p1] = bytes else {
             return None;
         };
-        let page = u16::from_be_bytes([*p0, *p1]);
+        let page = u16::from_be_bytes([p0, p1]);
         Some(Leaf { page })
     }
 
@@ -220,30 +190,24 @@ impl Record for Inner {
 
     const LENGTH: usize = 4;
 
-    ghost tag = { 5 };
+    ghost KIND = { 5 };
 
-    ghost size = { 4 };
+    ghost LENGTH = { 4 };
 
     ghost body = { inner_body };
+
+    ghost small = { Prim.search rules };
 
     ghost sized = { Prim.search rules };
 
     ghost apart = { Prim.search rules };
 
-    fn kind_byte() -> u8 {
-        Self::KIND
-    }
-
-    fn body_length() -> usize {
-        Self::LENGTH
-    }
-
     fn from_body(bytes: &[u8]) -> Option<Inner> {
-        let [a0, a1, d0, d1] = bytes else {
+        let &[a0, a1, d0, d1] = bytes else {
             return None;
         };
-        let first_child = u16::from_be_bytes([*a0, *a1]);
-        let degree = u16::from_be_bytes([*d0, *d1]);
+        let first_child = u16::from_be_bytes([a0, a1]);
+        let degree = u16::from_be_bytes([d0, d1]);
         Some(Inner {
             first_child,
             degree,
@@ -262,33 +226,24 @@ impl Record for Closure {
 
     const LENGTH: usize = 5;
 
-    ghost tag = { 6 };
+    ghost KIND = { 6 };
 
-    ghost size = { 5 };
+    ghost LENGTH = { 5 };
 
     ghost body = { closure_body };
+
+    ghost small = { Prim.search rules };
 
     ghost sized = { Prim.search rules };
 
     ghost apart = { Prim.search rules };
 
-    fn kind_byte() -> u8 {
-        Self::KIND
-    }
-
-    fn body_length() -> usize {
-        Self::LENGTH
-    }
-
     fn from_body(bytes: &[u8]) -> Option<Closure> {
-        let [channel, s0, s1, s2, s3] = bytes else {
+        let &[channel, s0, s1, s2, s3] = bytes else {
             return None;
         };
-        let slot = u32::from_be_bytes([*s0, *s1, *s2, *s3]);
-        Some(Closure {
-            channel: *channel,
-            slot,
-        })
+        let slot = u32::from_be_bytes([s0, s1, s2, s3]);
+        Some(Closure { channel, slot })
     }
 
     fn append_body(&self, out: &mut Vec<u8>) -> Result<(), AllocError> {
@@ -302,26 +257,20 @@ impl Record for End {
 
     const LENGTH: usize = 0;
 
-    ghost tag = { 0 };
+    ghost KIND = { 0 };
 
-    ghost size = { 0 };
+    ghost LENGTH = { 0 };
 
     ghost body = { λ _. [] };
+
+    ghost small = { Prim.search rules };
 
     ghost sized = { Prim.search rules };
 
     ghost apart = { Prim.search rules };
 
-    fn kind_byte() -> u8 {
-        Self::KIND
-    }
-
-    fn body_length() -> usize {
-        Self::LENGTH
-    }
-
     fn from_body(bytes: &[u8]) -> Option<End> {
-        let [] = bytes else {
+        let &[] = bytes else {
             return None;
         };
         Some(End {})

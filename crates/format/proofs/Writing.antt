@@ -1,5 +1,5 @@
 -- From the bytes of a plan to the answer on writing it, and that reading and writing undo each other.
-use Rattle.std.proofs.Common.{◌≡◌, ℕ, ◌<◌, ◌⊎◌, List, [], ◌∷◌, ◌++◌, length, take, drop, Some, None, Ok, Err, Result, sym, refl, ap, ◌∙◌, subst, inl, inr, ⊎_elim, append-nil, arith, length-append, MatchResult}
+use Rattle.std.proofs.Common.{◌≡◌, ℕ, ◌<◌, ◌⊎◌, List, [], ◌∷◌, ◌++◌, length, take, drop, Some, None, Option, Ok, Err, Result, ok_or, sym, refl, ap, ◌∙◌, subst, inl, inr, ⊎_elim, append-nil, arith, length-append, MatchResult}
 use Rattle.std.proofs.lemmas.List.{take_at}
 use Rattle.records.specs.Faults.{told}
 use Rattle.records.specs.declared.fault.Fault.{Fault}
@@ -37,7 +37,7 @@ pub lawful_if_read : (p q : Plan) → Reads (file_of p) q → Lawful (sheet p)
 lawful_if_read p q r = subst Lawful (sym (same_sheet (sheet p) (sheet q) (same_records _ _ r.whole))) r.lawful
 
 -- what putting the bytes of a plan that reads leaves
-pub wrote_of : (p q : Plan) (bytes was now : List ℕ) (n : ℕ) → bytes ≡ file_of p → Reads (file_of p) q → PutAll bytes was now (Some n) → Wrote p was now n
+wrote_of : (p q : Plan) (bytes was now : List ℕ) (n : ℕ) → bytes ≡ file_of p → Reads (file_of p) q → PutAll bytes was now (Some n) → Wrote p was now n
 wrote_of p q bytes was now n e r w = record {
   lawful = lawful_if_read p q r;
   count = w.0 ∙ ap length e;
@@ -45,8 +45,13 @@ wrote_of p q bytes was now n e r w = record {
   after = w.2 ∙ ap (λ l. l ++ drop n was) e;
 }
 
-pub no_room_of : (p q : Plan) (bytes was now : List ℕ) → bytes ≡ file_of p → Reads (file_of p) q → PutAll bytes was now None → Unwritten p (length was) 13 [] × (now ≡ was)
+no_room_of : (p q : Plan) (bytes was now : List ℕ) → bytes ≡ file_of p → Reads (file_of p) q → PutAll bytes was now None → Unwritten p (length was) 13 [] × (now ≡ was)
 no_room_of p q bytes was now e r w = (no_room (lawful_if_read p q r) (omega (arith, w.0, ap length e)), w.1)
+
+-- what the answer on putting them is as the answer on writing the plan
+pub written_of : (p q : Plan) (bytes was now : List ℕ) (o : Option ℕ) → bytes ≡ file_of p → Reads (file_of p) q → PutAll bytes was now o → Written p was now (ok_or o NoRoom)
+written_of p q bytes was now (Some n) e r w = wrote_of p q bytes was now n e r w
+written_of p q bytes was now None e r w = no_room_of p q bytes was now e r w
 
 read_again : (p : Plan) (file : List ℕ) → Lawful (sheet p) → file ≡ file_of p → (s : Result Plan Fault) → Answers file s → MatchResult s (λ q. sheet q ≡ sheet p) (λ f. f ≡ Memory)
 read_again p file l e (Ok q) a = one_sheet file (sheet q) (sheet p) a.lawful l a.whole e

@@ -1,5 +1,5 @@
 -- The closures of a plan, judged in their order.
-use Rattle.std.specs.Prelude.{◌≡◌, ℕ, ◌<◌, ◌≤◌, true, false, List, length, take, Option, MatchOption, slice_index_or}
+use Rattle.std.specs.Prelude.{◌≡◌, ℕ, ◌<◌, ◌≤◌, true, false, List, length, take, Result, MatchResult, slice_index_or}
 use Rattle.records.specs.declared.kinds.Closure.{Closure}
 use Rattle.timetable.specs.Closed.{closed_in}
 use Rattle.load.specs.declared.fault.ClosureFault.{ClosureFault}
@@ -23,8 +23,8 @@ abbrev pub Idles : ℕ → ℕ → List Closure → Closure → ClosureFault →
 Idles c p earlier x NoEntry = InTable c p x → ⊥
 Idles c p earlier x ClosedAlready = InTable c p x × (closed_in earlier x.channel x.slot ≡ true)
 
-abbrev pub Judged : ℕ → ℕ → List Closure → Closure → Option ClosureFault → Type 0
-Judged c p earlier x answer = MatchOption answer (Closes c p earlier x) (Idles c p earlier x)
+abbrev pub Judged : ℕ → ℕ → List Closure → Closure → Result (Unit {0}) ClosureFault → Type 0
+Judged c p earlier x answer = MatchResult answer (λ _. Closes c p earlier x) (Idles c p earlier x)
 
 abbrev pub closure_at : List Closure → ℕ → Closure
 closure_at cs i = slice_index_or cs i (record { channel = 0; slot = 0 })
@@ -40,5 +40,5 @@ pub record FirstIdle (c p : ℕ) (cs : List Closure) (i : ℕ) (f : ClosureFault
   pub before : CloseTo c p cs i
 
 -- all close something, or this is the first that does not
-abbrev pub FirstJudged : ℕ → ℕ → List Closure → Option (ℕ × ClosureFault) → Type 0
-FirstJudged c p cs answer = MatchOption answer (CloseTo c p cs (length cs)) (λ r. FirstIdle c p cs r.0 r.1)
+abbrev pub FirstJudged : ℕ → ℕ → List Closure → Result (Unit {0}) (ℕ × ClosureFault) → Type 0
+FirstJudged c p cs answer = MatchResult answer (λ _. CloseTo c p cs (length cs)) (λ r. FirstIdle c p cs r.0 r.1)

@@ -45,14 +45,10 @@ impl LoadFault {
         ensures is_told { MatchOption result (told_load self.now ≡ (0, [])) (λ n. told_load self.now ≡ (n.0, n.1 ∷ lower_list n.2)) }
     {
         match self {
-            LoadFault::Reading(fault) => match fault.number_and_byte() {
-                Some((number, byte)) => Some((number, byte, None)),
-                None => None,
+            LoadFault::Reading(fault) => {
+                fault.number_and_byte().map(|(number, byte)| (number, byte, None))
             },
-            LoadFault::Planning(refusal) => match refusal.number() {
-                0 => None,
-                lower => Some((45, 0, Some(lower))),
-            },
+            LoadFault::Planning(refusal) => refusal.number().map(|lower| (45, 0, Some(lower))),
             LoadFault::Closing(byte, fault) => Some((45, *byte, Some(fault.number()))),
         }
     }

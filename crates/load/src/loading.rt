@@ -3,7 +3,7 @@ ghost use Rattle.load.specs.Loading.{Loads, LoadRefused};
 ghost use Rattle.load.specs.Told.{told_load};
 ghost use Rattle.std.specs.Result.{MatchResult};
 
-use crate::closing::first_idle;
+use crate::closing::judge_all;
 use crate::fault::*;
 use codec::record::Record;
 use format::plan::Plan;
@@ -23,7 +23,7 @@ pub struct Loaded {
 }
 
 // The bytes of a closure's record.
-const CLOSURE_BYTES: usize = 6;
+const CLOSURE_BYTES: usize = 1 + Closure::LENGTH;
 
 // The plan that a file holds, with its timetable, or the first fault of the file, of the plan or of a closure.
 pub fn load(heap: Global, bytes: &[u8]) -> Result<Loaded, LoadFault>
@@ -35,7 +35,7 @@ pub fn load(heap: Global, bytes: &[u8]) -> Result<Loaded, LoadFault>
         closures,
     } = read_plan(heap, bytes)?;
     let schedule = schedule_of(heap, film, parts)?;
-    if let Some((index, fault)) = first_idle(
+    if let Err((index, fault)) = judge_all(
         closures.as_slice(),
         film.channels,
         schedule.period(),

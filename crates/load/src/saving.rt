@@ -13,8 +13,5 @@ pub fn save(heap: Global, plan: &Plan, out: &mut [u8]) -> Result<usize, SaveFaul
 {
     let bytes = plan_bytes(heap, plan)?;
     load(heap, bytes.as_slice())?;
-    match put_bytes(bytes.as_slice(), out) {
-        Some(length) => Ok(length),
-        None => Err(SaveFault::NoRoom),
-    }
+    put_bytes(bytes.as_slice(), out).ok_or(SaveFault::NoRoom)
 }

@@ -1,6 +1,6 @@
 // The records that a plan file lists: pagoda channels, rows, nodes and closures.
-ghost use Rattle.std.specs.Prelude.{◌≡◌, ◌++◌, is_ok, if◌then◌else◌};
-ghost use Rattle.format.specs.Items.{Item, part, channel, row, node, closure, bytes as written, Stood};
+ghost use Rattle.std.specs.Prelude.{refl, ◌≡◌, ◌++◌, is_ok, if◌then◌else◌};
+ghost use Rattle.format.specs.Items.{Item, kind, size, body, part, channel, row, node, closure, bytes as written, Stood};
 
 use codec::record::*;
 use codec::scan::{append_record, read_record};
@@ -22,22 +22,45 @@ pub trait Listed: Sized {
         ensures appends_all_or_nothing { out.new.items ≡ (if is_ok result then out.old.items ++ written (item self.now) else out.old.items) };
 }
 
-impl Listed for Channel {
-    ghost item = { λ x. part (channel x) };
+// A record that stands in a list by itself: a pagoda channel, a row or a closure.
+pub trait Lone: Record {
+    // which record it is
+    ghost lone: { Self → Item };
 
-    fn read_at(bytes: &[u8], at: usize) -> Result<Option<(Channel, usize)>, Fault> {
-        read_record(bytes, at)
-    }
+    // one of its kind
+    ghost some: { Self };
 
-    fn append_to(&self, out: &mut Vec<u8>) -> Result<(), AllocError> {
-        append_record(self, out)
-    }
+    ghost is_coded: { (x : Self) → (kind (lone x) ≡ Self.KIND) × (size (lone x) ≡ Self.LENGTH) × (body (lone x) ≡ Self.body x) };
 }
 
-impl Listed for Row {
-    ghost item = { λ x. part (row x) };
+impl Lone for Channel {
+    ghost lone = { λ x. part (channel x) };
 
-    fn read_at(bytes: &[u8], at: usize) -> Result<Option<(Row, usize)>, Fault> {
+    ghost some = { record { subchannels = 0 } };
+
+    ghost is_coded = { λ x. (refl, refl, refl) };
+}
+
+impl Lone for Row {
+    ghost lone = { λ x. part (row x) };
+
+    ghost some = { record { page = 0; channel = 0; start = 0; period = 0 } };
+
+    ghost is_coded = { λ x. (refl, refl, refl) };
+}
+
+impl Lone for Closure {
+    ghost lone = { λ x. closure x };
+
+    ghost some = { record { channel = 0; slot = 0 } };
+
+    ghost is_coded = { λ x. (refl, refl, refl) };
+}
+
+impl<R: Lone> Listed for R {
+    ghost item = { R.lone };
+
+    fn read_at(bytes: &[u8], at: usize) -> Result<Option<(R, usize)>, Fault> {
         read_record(bytes, at)
     }
 
@@ -53,10 +76,7 @@ impl Listed for Node {
         if let Some((leaf, next)) = read_record(bytes, at)? {
             return Ok(Some((Node::Leaf(leaf), next)));
         }
-        match read_record(bytes, at)? {
-            Some((inner, next)) => Ok(Some((Node::Inner(inner), next))),
-            None => Ok(None),
-        }
+        Ok(read_record(bytes, at)?.map(|(inner, next)| (Node::Inner(inner), next)))
     }
 
     fn append_to(&self, out: &mut Vec<u8>) -> Result<(), AllocError> {
@@ -64,17 +84,5 @@ impl Listed for Node {
             Node::Leaf(leaf) => append_record(leaf, out),
             Node::Inner(inner) => append_record(inner, out),
         }
-    }
-}
-
-impl Listed for Closure {
-    ghost item = { λ x. closure x };
-
-    fn read_at(bytes: &[u8], at: usize) -> Result<Option<(Closure, usize)>, Fault> {
-        read_record(bytes, at)
-    }
-
-    fn append_to(&self, out: &mut Vec<u8>) -> Result<(), AllocError> {
-        append_record(self, out)
     }
 }

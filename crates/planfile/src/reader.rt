@@ -36,15 +36,13 @@ fn misfit(bytes: &[u8], at: usize) -> Fault
     if at >= bytes.len() {
         return Fault::CutShort(at);
     }
-    match length_of_kind(bytes[at]) {
-        None => Fault::UnknownKind(at),
-        Some(length) => {
-            if bytes.len() - at - 1 < length {
-                Fault::CutShort(at)
-            } else {
-                Fault::OutOfPlace(at)
-            }
-        }
+    let Some(length) = length_of_kind(bytes[at]) else {
+        return Fault::UnknownKind(at);
+    };
+    if bytes.len() - at - 1 < length {
+        Fault::CutShort(at)
+    } else {
+        Fault::OutOfPlace(at)
     }
 }
 
@@ -53,15 +51,15 @@ fn read_parts(heap: Global, bytes: &[u8], at: usize) -> Result<(Parts, usize), F
     ensures reads_one_sort { MatchResult result (λ p. PartsAt bytes.now at p.1 (parts_of p.0)) (AfterFilm bytes.now at) }
 {
     let (channels, end) = read_run::<Channel>(heap, bytes, at, MOST_CHANNELS)?;
-    if channels.len() > 0 {
+    if !channels.is_empty() {
         return Ok((Parts::Pagoda(channels), end));
     }
     let (rows, end) = read_run::<Row>(heap, bytes, at, MOST_ROWS)?;
-    if rows.len() > 0 {
+    if !rows.is_empty() {
         return Ok((Parts::Rows(rows), end));
     }
     let (nodes, end) = read_run::<Node>(heap, bytes, at, MOST_NODES)?;
-    if nodes.len() > 0 {
+    if !nodes.is_empty() {
         return Ok((Parts::Tree(nodes), end));
     }
     Err(misfit(bytes, at))

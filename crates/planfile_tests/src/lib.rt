@@ -100,13 +100,11 @@ mod tests {
         let back = read_plan(heap, &out)?;
         assert_eq!(rt; back.film, FILM);
         assert!(rt; back.closures == vec![in heap; CLOSED]?);
-        match &back.parts {
-            Parts::Rows(rows) => {
-                assert!(rt; *rows == vec![in heap; ROW]?);
-                Ok(())
-            },
-            _ => Err(Fail::new("no rows")),
-        }
+        let Parts::Rows(rows) = &back.parts else {
+            return Err(Fail::new("no rows"));
+        };
+        assert!(rt; *rows == vec![in heap; ROW]?);
+        Ok(())
     }
 
     #[test]

@@ -43,7 +43,7 @@ mod tests {
         }
         match Pagoda::plan(heap, delay, channels.as_slice()) {
             Ok(plan) => Ok(plan.pages()),
-            Err(refusal) => Ok(10_000 + u16::from(refusal.number())),
+            Err(refusal) => Ok(10_000 + u16::from(refusal.number().unwrap_or(0))),
         }
     }
 

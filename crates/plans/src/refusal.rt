@@ -1,4 +1,4 @@
-ghost use Rattle.std.specs.Prelude.{◌≡◌};
+ghost use Rattle.std.specs.Prelude.{◌≡◌, ◌≢◌, MatchOption};
 ghost use Rattle.plans.specs.Refusals.{told};
 ghost use Rattle.plans.specs.declared.refusal.Refusal.TheVariants.{OutOfMemory};
 
@@ -26,19 +26,19 @@ pub enum Refusal {
 }
 
 impl Refusal {
-    // The number of the refusal; 0 is want of memory, which is no judgement on a plan.
-    pub fn number(&self) -> u8
-        ensures is_told { result ≡ (told self.now).0 }
+    // The number of the refusal, or `None` for want of memory, which is no judgement on a plan.
+    pub fn number(&self) -> Option<u8>
+        ensures is_told { MatchOption result (self.now ≡ OutOfMemory) (λ n. (n ≢ 0) × ((told self.now).0 ≡ n)) }
     {
         match self {
-            Refusal::OutOfRange => 1,
-            Refusal::WrongSubchannels => 2,
-            Refusal::TooManyPages => 3,
-            Refusal::PeriodTooLong => 4,
-            Refusal::NoFreeSequence(_) => 5,
-            Refusal::NoRoom => 6,
-            Refusal::WrongNode(_) => 7,
-            Refusal::OutOfMemory => 0,
+            Refusal::OutOfRange => Some(1),
+            Refusal::WrongSubchannels => Some(2),
+            Refusal::TooManyPages => Some(3),
+            Refusal::PeriodTooLong => Some(4),
+            Refusal::NoFreeSequence(_) => Some(5),
+            Refusal::NoRoom => Some(6),
+            Refusal::WrongNode(_) => Some(7),
+            Refusal::OutOfMemory => None,
         }
     }
 }

@@ -57,10 +57,7 @@ fn put_plan(heap: Global, plan: &Plan, out: &mut [u8]) -> Result<usize, WriteFau
 {
     let bytes = plan_bytes(heap, plan)?;
     read_plan(heap, bytes.as_slice())?;
-    match put_bytes(bytes.as_slice(), out) {
-        Some(length) => Ok(length),
-        None => Err(WriteFault::NoRoom),
-    }
+    put_bytes(bytes.as_slice(), out).ok_or(WriteFault::NoRoom)
 }
 
 // Writes a plan to the beginning of `out`, and answers how many bytes it took. What reading would refuse is not written, and then `out` stays as it was.

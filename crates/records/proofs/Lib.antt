@@ -1,3 +1,2 @@
-pub mod Spell
 pub mod Spanning
 pub mod Exits

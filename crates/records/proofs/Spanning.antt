@@ -1,14 +1,7 @@
 -- Pieces of a file, and records that stand in it.
-use Rattle.std.proofs.Common.{◌≡◌, ℕ, ◌+◌, ◌≤◌, List, [], ◌∷◌, ◌++◌, length, get_or, take, drop, Some, None, Ok, Option, sym, refl, ap, ◌∙◌, subst, append_assoc, append-nil, add-zero, arith, length-append, length-drop, take-append-drop}
-use Rattle.std.proofs.lemmas.List.{drop_more, drop-drop, drop_all, get_or-drop, length-take-le}
+use Rattle.std.proofs.Common.{◌≡◌, ℕ, ◌≤◌, List, [], ◌∷◌, ◌++◌, length, get_or, drop, Some, None, Ok, Option, sym, refl, ap, ◌∙◌, subst, append_assoc, append-nil, add-zero, arith, length-append, length-drop}
+use Rattle.std.proofs.lemmas.List.{drop_all, get_or-drop}
 use Rattle.records.specs.Places.{Spans, Opens, Found}
-
--- a kind byte, and after it a body of n bytes
-pub spans_record : (file : List ℕ) (a k n : ℕ) (bs : List ℕ) → Opens file a k → a + 1 + n ≤ length file → bs ≡ take n (drop (a + 1) file) → Spans file a (a + 1 + n) (k ∷ bs)
-spans_record file a k n bs o h e =
-    let long : length bs ≡ n = ap length e ∙ length-take-le n (drop (a + 1) file) (omega (arith, length-drop (a + 1) file)) in
-    let rest : drop (a + 1) file ≡ bs ++ drop (a + 1 + n) file = sym (take-append-drop n (drop (a + 1) file)) ∙ (λ i. sym e i ++ drop-drop n (a + 1) file i) in
-    record { reads = drop_more file a 0 o.within ∙ (λ i. o.kind i ∷ rest i); ends = omega arith }
 
 pub spans_none : (file : List ℕ) (a : ℕ) → Spans file a a []
 spans_none file a = record { reads = refl; ends = omega arith }
@@ -18,10 +11,6 @@ spans_join {file} {a} {b} {e} {xs} {ys} s t = record {
   reads = s.reads ∙ ap (λ l. xs ++ l) t.reads ∙ sym (append_assoc xs ys (drop e file));
   ends = omega (arith, s.ends, t.ends, length-append xs ys);
 }
-
--- where it ends, by its length
-pub spans_long : {file : List ℕ} {a e : ℕ} {xs : List ℕ} → Spans file a e xs → Spans file a (a + length xs) xs
-spans_long {file} {a} {e} {xs} s = subst (λ e. Spans file a e xs) s.ends s
 
 pub spans_within : {file : List ℕ} {a e : ℕ} {x : ℕ} {xs : List ℕ} → Spans file a e (x ∷ xs) → e ≤ length file
 spans_within {file} {a} {e} {x} {xs} s =

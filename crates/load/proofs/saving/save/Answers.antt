@@ -1,11 +1,11 @@
-use Rattle.std.proofs.Common.{◌≡◌, length, refl, ◌∙◌, subst}
+use Rattle.std.proofs.Common.{◌≡◌, length, sym, refl, ◌∙◌, subst}
 use Rattle.records.proofs.Exits.{exit}
 use Rattle.load.specs.declared.fault.LoadFault.TheVariants.{Reading}
 use Rattle.load.specs.declared.fault.SaveFault.TheVariants.{Unfit}
 use Rattle.load.specs.Loading.{Loads, LoadRefused}
 use Rattle.load.specs.Told.{told_load}
-use Rattle.load.specs.Saving.{Unsaved, unfit, Saves, told_save}
-use Rattle.load.proofs.Puts.{not_made, saves_of, no_room_of}
+use Rattle.load.specs.Saving.{Unsaved, unfit, Saves, Saved, told_save}
+use Rattle.load.proofs.Puts.{not_made, saved_of}
 use Rattle.load.proofs.saving.save.Goals as goal
 
 pub returns-in_err-bytes : goal.returns-in_err-bytes
@@ -29,18 +29,11 @@ returns-in_err-load c =
           (unfit _ _ (subst (λ l. LoadRefused l (told_load f).0 (told_load f).1) same c.in_err-load.ensures.loads_or_refuses), refl);
     }
 
-pub returns-in-Some : goal.returns-in-Some
-returns-in-Some c =
-    let p = c.args.plan.now in
-    let l = c.in_ok-load.field-0 in
-    let made = c.in_ok-bytes.ensures.makes_the_bytes in
-    let loads = subst (λ x. Loads x l) (c.as_slice.ensures.value ∙ made) c.in_ok-load.ensures.loads_or_refuses in
-    record { saves_or_refuses = saves_of p l _ c.args.out.now _ _ (c.as_slice-2.ensures.value ∙ made) loads c.in-Some.ensures.puts_all_or_nothing }
-
 pub returns : goal.returns
 returns c =
     let p = c.args.plan.now in
     let l = c.in_ok-load.field-0 in
     let made = c.in_ok-bytes.ensures.makes_the_bytes in
     let loads = subst (λ x. Loads x l) (c.as_slice.ensures.value ∙ made) c.in_ok-load.ensures.loads_or_refuses in
-    record { saves_or_refuses = no_room_of p l _ c.args.out.now _ (c.as_slice-2.ensures.value ∙ made) loads c.in-None.ensures.puts_all_or_nothing }
+    let saved = saved_of p l _ c.args.out.now _ _ (c.as_slice-2.ensures.value ∙ made) loads c.put_bytes.ensures.puts_all_or_nothing in
+    record { saves_or_refuses = subst (Saved p c.args.out.now c.put_bytes.new.out) (sym c.ok_or.ensures.value) saved }

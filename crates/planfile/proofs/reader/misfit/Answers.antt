@@ -6,11 +6,11 @@ use Rattle.planfile.proofs.reader.misfit.Goals as goal
 pub returns-then-at-bytes : goal.returns-then-at-bytes
 returns-then-at-bytes c = record { is_wrong = λ rs h r none. cut_short _ rs h r (inl c.if-at-bytes.true) }
 
-pub returns-in-None : goal.returns-in-None
-returns-in-None c = record {
+pub returns-in_default : goal.returns-in_default
+returns-in_default c = record {
   is_wrong = λ rs h r none. unknown_kind _ rs h r (record {
     within = c.if-at-bytes.false;
-    none = λ x o. c.in-None.ensures.is_kind_length x (sym o.kind);
+    none = λ x o. c.in_default.ensures.is_kind_length x (sym o.kind);
   });
 }
 

@@ -1,11 +1,11 @@
-use Rattle.std.proofs.Common.{◌≡◌, length, refl, ◌∙◌, subst}
+use Rattle.std.proofs.Common.{◌≡◌, length, sym, refl, ◌∙◌, subst}
 use Rattle.records.proofs.Exits.{exit}
 use Rattle.records.specs.Faults.{told}
 use Rattle.format.specs.declared.fault.WriteFault.TheVariants.{Unfit}
 use Rattle.format.specs.Answers.{Reads}
 use Rattle.format.specs.Format.{Refused}
-use Rattle.format.specs.Writing.{Wrote, Unwritten, unfit, told_write}
-use Rattle.format.proofs.Writing.{not_made, wrote_of, no_room_of}
+use Rattle.format.specs.Writing.{Wrote, Unwritten, Written, unfit, told_write}
+use Rattle.format.proofs.Writing.{not_made, written_of}
 use Rattle.planwriter.proofs.writer.put_plan.Goals as goal
 
 pub returns-in_err-bytes : goal.returns-in_err-bytes
@@ -29,18 +29,11 @@ returns-in_err-read_plan c =
           (unfit _ _ (subst (λ l. Refused l (told f).0 (told f).1) same c.in_err-read_plan.ensures.answers), refl);
     }
 
-pub returns-in-Some : goal.returns-in-Some
-returns-in-Some c =
-    let p = c.args.plan.now in
-    let q = c.in_ok-read_plan.field-0 in
-    let made = c.in_ok-bytes.ensures.makes_the_bytes in
-    let read = subst (λ l. Reads l q) (c.as_slice.ensures.value ∙ made) c.in_ok-read_plan.ensures.answers in
-    record { writes = wrote_of p q _ c.args.out.now _ _ (c.as_slice-2.ensures.value ∙ made) read c.in-Some.ensures.puts_all_or_nothing }
-
 pub returns : goal.returns
 returns c =
     let p = c.args.plan.now in
     let q = c.in_ok-read_plan.field-0 in
     let made = c.in_ok-bytes.ensures.makes_the_bytes in
     let read = subst (λ l. Reads l q) (c.as_slice.ensures.value ∙ made) c.in_ok-read_plan.ensures.answers in
-    record { writes = no_room_of p q _ c.args.out.now _ (c.as_slice-2.ensures.value ∙ made) read c.in-None.ensures.puts_all_or_nothing }
+    let written = written_of p q _ c.args.out.now _ _ (c.as_slice-2.ensures.value ∙ made) read c.put_bytes.ensures.puts_all_or_nothing in
+    record { writes = subst (Written p c.args.out.now c.put_bytes.new.out) (sym c.ok_or.ensures.value) written }

@@ -8,7 +8,7 @@ returns-in_err-leaf c = record {
   finds = stood_cut (λ x. part (node x)) c.args.bytes.now c.args.at (Leaf (record { page = 0 })) _ _ c.from_residual.ensures.1 c.in_err-leaf.ensures.finds;
 }
 
-pub returns-in_err-inner : goal.returns-in_err-inner
-returns-in_err-inner c = record {
-  finds = stood_cut (λ x. part (node x)) c.args.bytes.now c.args.at (Inner (record { first_child = 0; degree = 0 })) _ _ c.from_residual-in_err-inner.ensures.1 c.in_err-inner.ensures.finds;
+pub returns-in_err-read_record : goal.returns-in_err-read_record
+returns-in_err-read_record c = record {
+  finds = stood_cut (λ x. part (node x)) c.args.bytes.now c.args.at (Inner (record { first_child = 0; degree = 0 })) _ _ c.from_residual-in_err-read_record.ensures.1 c.in_err-read_record.ensures.finds;
 }

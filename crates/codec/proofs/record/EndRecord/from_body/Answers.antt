@@ -1,7 +1,0 @@
-use Rattle.std.proofs.Common.{arith}
-use Rattle.std.proofs.lemmas.Bool.{ltb-true, ltb-false}
-use Rattle.records.proofs.Spell.{spelled}
-use Rattle.codec.proofs.record.EndRecord.from_body.Goals as goal
-
-pub returns : goal.returns
-returns c = record { has_body = spelled c.args.bytes.now 0 (omega (arith, ltb-true, ltb-false)) }
