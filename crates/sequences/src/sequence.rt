@@ -20,14 +20,9 @@ impl Ranked for FreeSequence {
     ghost ordered = { λ w. earlier_ranks w };
 
     fn comes_before(&self, other: &Self, window: u32) -> bool {
-        let key = |sequence: &Self| {
-            let rest = window.checked_rem(sequence.period).unwrap_or(window);
-            (
-                rest,
-                Reverse(sequence.period),
-                sequence.channel,
-                sequence.start,
-            )
+        let key = |s: &Self| {
+            let rest = window.checked_rem(s.period).unwrap_or(window);
+            (rest, Reverse(s.period), s.channel, s.start)
         };
         key(self) < key(other)
     }
