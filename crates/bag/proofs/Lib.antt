@@ -1,4 +1,5 @@
 pub mod Memory
+mod Filling
 mod Moves
 pub mod Ranking
 pub mod Taking

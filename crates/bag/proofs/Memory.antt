@@ -6,12 +6,11 @@ use Rattle.bag.specs.declared.bag.Bag.{Bag}
 use Rattle.bag.specs.declared.ranked.Ranked.{Ghosts}
 
 pub same_memory_refl : {X : Type 0} {g : Ghosts X} (a : Bag X g) → SameMemory a a
-same_memory_refl a = record { same_room = refl; same_zero = refl; same_lender = refl }
+same_memory_refl a = record { same_room = refl; same_lender = refl }
 
 pub same_memory_trans : {X : Type 0} {g : Ghosts X} (a b c : Bag X g) → SameMemory a b → SameMemory b c → SameMemory a c
 same_memory_trans a b c h i = record {
   same_room = i.same_room ∙ h.same_room;
-  same_zero = i.same_zero ∙ h.same_zero;
   same_lender = i.same_lender ∙ h.same_lender;
 }
 

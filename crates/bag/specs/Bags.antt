@@ -21,17 +21,16 @@ room b = length b.places.now
 
 -- each place that no held record has holds the zero record
 abbrev pub FreeAreZero : {X : Type 0} {g : Ghosts X} → Bag X g → Type 0
-FreeAreZero b = FreeFrom b.count b.places.now b.zero
+FreeAreZero {X} {g} b = FreeFrom b.count b.places.now g.blank
 
 -- nothing is held, and every place holds the zero record
 pub record Emptied {X : Type 0} {g : Ghosts X} (b : Bag X g) : Type 0 where
   pub none_held : held b ≡ []
-  pub all_zero : FreeFrom 0 b.places.now b.zero
+  pub all_zero : FreeFrom 0 b.places.now g.blank
 
--- b lies over the places that a lay over, with the same zero record
+-- b lies over the places that a lay over
 pub record SameMemory {X : Type 0} {g : Ghosts X} (a b : Bag X g) : Type 0 where
   pub same_room : room b ≡ room a
-  pub same_zero : b.zero ≡ a.zero
   pub same_lender : b.places.ghost_name ≡ a.places.ghost_name
 
 -- every place, in use and free, is as it was

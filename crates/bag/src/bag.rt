@@ -11,9 +11,8 @@ mod calls;
 pub struct Bag<'a, R: Ranked> {
     places: &'a mut [R],
     count: usize,
-    zero: R,
     ghost fits: { count ≤ length places.now },
-    ghost free: { FreeFrom count places.now zero },
+    ghost free: { FreeFrom count places.now R.Ranked.blank },
 }
 
 // The refusal of a record for which there is no place.

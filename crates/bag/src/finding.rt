@@ -4,7 +4,7 @@ ghost use Rattle.std.proofs.Common.{rules};
 use crate::ranked::Ranked;
 
 // A page that starves, and the first slot at which it does.
-#[derive(Clone, Copy, Debug, PartialEq, Eq)]
+#[derive(Clone, Copy, Debug, Default, PartialEq, Eq, PartialOrd, Ord)]
 pub struct Finding {
     pub page: u16,
     pub slot: u32,
@@ -18,14 +18,10 @@ impl Ranked for Finding {
     ghost ordered = { Prim.search rules };
 
     fn comes_before(&self, other: &Self, _window: u32) -> bool {
-        if self.page != other.page {
-            self.page < other.page
-        } else {
-            self.slot < other.slot
-        }
+        self < other
     }
 
     fn zero() -> Self {
-        Finding { page: 0, slot: 0 }
+        Self::default()
     }
 }

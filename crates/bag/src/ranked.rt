@@ -9,13 +9,13 @@ pub trait Ranked: Sized + Copy {
     // The record that a free place holds.
     ghost blank: { Self };
 
-    // Whether this record comes before the other at a window.
-    fn comes_before(&self, other: &Self, window: u32) -> bool
-        ensures by_order { result ≡ before window self.now other.now };
-
     // The record that a free place holds.
     fn zero() -> Self
         ensures is_blank { result ≡ blank };
+
+    // Whether this record comes before the other at a window.
+    fn comes_before(&self, other: &Self, window: u32) -> bool
+        ensures by_order { result ≡ before window self.now other.now };
 
     // At each window the order is total, up to ties: of two records at most one comes before the other, and where x does
     // not come before y, nor y before z, x does not come before z.

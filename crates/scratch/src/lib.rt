@@ -7,9 +7,7 @@ ghost use Rattle.std.specs.Prelude.{◌≡◌, length, replicate};
 pub fn zero(cells: &mut [u32])
     ensures all_zero { cells.new ≡ replicate (length cells.old) 0 }
 {
-    for cell in cells.iter_mut() {
-        *cell = 0;
-    }
+    cells.fill(0);
 }
 
 // A guard over lent cells: whatever they hold meanwhile, they are all 0 when it goes.

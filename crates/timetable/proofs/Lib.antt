@@ -1,3 +1,2 @@
-mod Closing
 pub mod Periods
 pub mod Repeating

@@ -1,15 +1,14 @@
 -- Closed entries, and what is sent over them. An entry is one channel in one slot of the period.
-use Rattle.std.specs.Prelude.{◌≡◌, ℕ, ◌%◌, ◌^◌, ◌<◌, Bool, true, false, cond, ◌&&◌, ◌||◌, List, [], ◌∷◌, map, ◌==◌, refl}
+use Rattle.std.specs.Prelude.{◌≡◌, ℕ, ◌%◌, ◌^◌, ◌<◌, Bool, true, false, cond, ◌&&◌, List, map, ◌==◌, refl}
 use Rattle.std.proofs.Math.Nat.{add-mod_right}
 use Rattle.std.proofs.Common.{lit<}
-use Rattle.std.specs.List.{range_with_len}
+use Rattle.std.specs.List.{list_any, range_with_len}
 use Rattle.records.specs.declared.kinds.Closure.{Closure}
 use Rattle.timetable.specs.Meaning.{Meaning, Lawful}
 
 -- the entry of channel k in slot s is among the closed ones
 abbrev pub closed_in : List Closure → ℕ → ℕ → Bool
-closed_in [] k s = false
-closed_in (e ∷ es) k s = (e.channel == k && e.slot == s) || closed_in es k s
+closed_in es k s = list_any (λ e. e.channel == k && e.slot == s) es
 
 -- what is sent: the timetable's page, but silence where the entry is closed. (With period 0 each slot is its own.)
 abbrev pub sent : Meaning → List Closure → ℕ → ℕ → ℕ

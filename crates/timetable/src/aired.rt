@@ -1,4 +1,4 @@
-ghost use Rattle.std.specs.Prelude.{◌≡◌, ◌&&◌, ◌==◌};
+ghost use Rattle.std.specs.Prelude.{◌≡◌};
 ghost use Rattle.timetable.specs.Closed.{aired, aired_lawful, closed_in};
 
 use super::interface::Timetable;
@@ -11,23 +11,11 @@ pub struct Aired<'a, T> {
     pub closed: &'a [Closure],
 }
 
-// Whether it is the entry of a channel in a slot that is closed.
-fn closes(closure: &Closure, channel: u8, slot: u32) -> bool
-    ensures closes_entry { result ≡ (closure.now.channel == channel && closure.now.slot == slot) }
-{
-    closure.channel == channel && closure.slot == slot
-}
-
 // Whether the entry of a channel in a slot of the period is among the closed ones.
 pub fn is_closed(closed: &[Closure], channel: u8, slot: u32) -> bool
     ensures among_closed { result ≡ closed_in closed.now channel slot }
 {
-    for closure in closed {
-        if closes(closure, channel, slot) {
-            return true;
-        }
-    }
-    false
+    closed.contains(&Closure { channel, slot })
 }
 
 impl<T: Timetable> Timetable for Aired<'_, T> {
@@ -44,8 +32,7 @@ impl<T: Timetable> Timetable for Aired<'_, T> {
     }
 
     fn page_at(&self, channel: u8, slot: u32) -> u16 {
-        let period = self.table.period();
-        let place = if period == 0 { slot } else { slot % period };
+        let place = slot.checked_rem(self.table.period()).unwrap_or(slot);
         if is_closed(self.closed, channel, place) {
             return 0;
         }

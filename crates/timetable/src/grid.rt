@@ -27,11 +27,8 @@ impl Timetable for Grid<'_> {
         if self.period == 0 || channel == 0 || channel > self.channels {
             return 0;
         }
-        let place = (slot % self.period) as usize * self.channels as usize + channel as usize - 1;
-        if place < self.cells.len() {
-            self.cells[place]
-        } else {
-            0
-        }
+        let line = (slot % self.period) as usize * usize::from(self.channels);
+        let place = line + usize::from(channel) - 1;
+        self.cells.get(place).copied().unwrap_or(0)
     }
 }
