@@ -1,12 +1,13 @@
 -- One line more of a feeding.
-use Rattle.std.proofs.Common.{◌≡◌, ℕ, ◌+◌, ◌<◌, ◌≤◌, Bool, true, false, cond, not, eqb, ltb, leb, List, [], ◌∷◌, ◌++◌, map, length, get_or, set, vec_items, Vec, sym, refl, ap, ◌∙◌, ⊎_elim, append_assoc, append-nil, arith}
-use Rattle.std.proofs.lemmas.Bool.{cases_lt, lt-ltb, le-ltb, cond-true, cond-false, eq-eqb, ne_eqb}
-use Rattle.std.proofs.lemmas.List.{drop_more, drop_all}
+use Rattle.std.proofs.Common.{◌≡◌, ℕ, ◌+◌, ◌<◌, ◌≤◌, Bool, true, false, cond, not, eqb, ltb, leb, List, [], ◌∷◌, ◌++◌, map, length, get_or, take, drop, set, vec_items, Vec, sym, refl, ap, ◌∙◌, append_assoc, arith}
+use Rattle.std.proofs.lemmas.Bool.{lt-ltb, cond-true, cond-false, eq-eqb, ne_eqb}
+use Rattle.std.proofs.lemmas.List.{drop_more, drop_all, take-append-drop, map-append}
 use Rattle.receiver.specs.declared.numbers.Numbers.{Numbers}
 use Rattle.receiver.specs.Calls.{Outcome, granted, refused, tune, hear, start, show, heard_more, shown_more}
 use Rattle.receiver.specs.Stores.{taken, stock}
-use Rattle.feeding.specs.Feeding.{Fed, Ending, cut, whole, denied, heard_first, shown_first, before, stop, going, waiting, showing, feeding}
-use Rattle.feeding.specs.Phases.{rows, preceded}
+use Rattle.feeding.specs.Feeding.{Fed, cut, whole, denied, heard_first, shown_first, before, stop, going, waiting, showing, feeding}
+use Rattle.feeding.specs.Phases.{rows, preceded, so_far, Begins}
+use Rattle.feeding.specs.declared.viewing.Viewing.{Viewing}
 
 -- a call that was granted passed each test
 past : {A : Type 0} (b : Bool) (d : ℕ × List ℕ) (x : Outcome A) (y : A) → cond b (refused d) x ≡ granted y → x ≡ granted y
@@ -32,9 +33,9 @@ show_numbers r r' p store ps store' e =
 push : (xs : List ℕ) (x : ℕ) (ys : List ℕ) → xs ++ (x ∷ ys) ≡ (xs ++ (x ∷ [])) ++ ys
 push xs x ys = sym (append_assoc xs (x ∷ []) ys)
 
-heard_pushed : (ss : List ℕ) (s s' : ℕ) (w : Fed × List ℕ) → s' ≡ s → before (preceded [] ss) (before (heard_first s) w) ≡ before (preceded [] (ss ++ (s' ∷ []))) w
-heard_pushed ss s s' w e =
-    ap (λ (x : List ℕ). before (λ f. record { shows = f.shows; stocks = x; peak = f.peak; ending = f.ending }) w)
+heard_pushed : (ps ss : List ℕ) (s s' : ℕ) (w : Fed × List ℕ) → s' ≡ s → before (preceded ps ss) (before (heard_first s) w) ≡ before (preceded ps (ss ++ (s' ∷ []))) w
+heard_pushed ps ss s s' w e =
+    ap (λ (x : List ℕ). before (λ f. record { shows = ps ++ f.shows; stocks = x; peak = f.peak; ending = f.ending }) w)
     (ap (λ x. ss ++ (x ∷ w.0.stocks)) (sym e) ∙ push ss s' w.0.stocks)
 
 shown_pushed : (ps ss : List ℕ) (p s s' : ℕ) (w : Fed × List ℕ) → s' ≡ s
@@ -48,22 +49,22 @@ module _ {Z : Type 0} (lines : List (Vec ℕ Z)) (i : ℕ) (d : Vec ℕ Z) (insi
   rows_more : rows lines i ≡ vec_items (get_or lines i d) ∷ rows lines (i + 1)
   rows_more = ap (λ (xs : List (Vec ℕ Z)). map vec_items xs) (drop_more lines i d inside)
 
-  module _ (r : Numbers) (store : List ℕ) (early : r.heard < r.delay) where
+  module _ (rest : List (List ℕ)) (r : Numbers) (store : List ℕ) (early : r.heard < r.delay) where
     abbrev heard_on : Numbers × List ℕ → Fed × List ℕ
-    heard_on x = before (heard_first (stock r.pages store (vec_items (get_or lines i d)))) (waiting (rows lines (i + 1)) x.0 x.1)
+    heard_on x = before (heard_first (stock r.pages store (vec_items (get_or lines i d)))) (waiting (rows lines (i + 1) ++ rest) x.0 x.1)
 
-    hears : waiting (rows lines i) r store ≡ going r.peak store (hear r store (vec_items (get_or lines i d))) heard_on
-    hears = ap (λ x. waiting x r store) rows_more ∙ cond-true _ _ _ (lt-ltb r.heard r.delay early)
+    hears : waiting (rows lines i ++ rest) r store ≡ going r.peak store (hear r store (vec_items (get_or lines i d))) heard_on
+    hears = ap (λ x. waiting (x ++ rest) r store) rows_more ∙ cond-true _ _ _ (lt-ltb r.heard r.delay early)
 
-    pub hears_more : (ss : List ℕ) (s : ℕ) (r' : Numbers) (store' : List ℕ) → hear r store (vec_items (get_or lines i d)) ≡ granted (r', store') → s ≡ stock r.pages store (vec_items (get_or lines i d))
-        → before (preceded [] ss) (waiting (rows lines i) r store) ≡ before (preceded [] (ss ++ (s ∷ []))) (waiting (rows lines (i + 1)) r' store')
-    hears_more ss s r' store' e es =
-        ap (λ x. before (preceded [] ss) x) (hears ∙ ap (λ x. going r.peak store x heard_on) e)
-        ∙ heard_pushed ss (stock r.pages store (vec_items (get_or lines i d))) s (waiting (rows lines (i + 1)) r' store') es
+    pub hears_more : (ps ss : List ℕ) (s : ℕ) (r' : Numbers) (store' : List ℕ) → hear r store (vec_items (get_or lines i d)) ≡ granted (r', store') → s ≡ stock r.pages store (vec_items (get_or lines i d))
+        → before (preceded ps ss) (waiting (rows lines i ++ rest) r store) ≡ before (preceded ps (ss ++ (s ∷ []))) (waiting (rows lines (i + 1) ++ rest) r' store')
+    hears_more ps ss s r' store' e es =
+        ap (λ x. before (preceded ps ss) x) (hears ∙ ap (λ x. going r.peak store x heard_on) e)
+        ∙ heard_pushed ps ss (stock r.pages store (vec_items (get_or lines i d))) s (waiting (rows lines (i + 1) ++ rest) r' store') es
 
-    pub hears_refused : (ss : List ℕ) (v : ℕ × List ℕ) → hear r store (vec_items (get_or lines i d)) ≡ refused v
-        → before (preceded [] ss) (waiting (rows lines i) r store) ≡ before (preceded [] ss) (stop r.peak store (denied v.0 v.1))
-    hears_refused ss v e = ap (λ x. before (preceded [] ss) x) (hears ∙ ap (λ x. going r.peak store x heard_on) e)
+    pub hears_refused : (ps ss : List ℕ) (v : ℕ × List ℕ) → hear r store (vec_items (get_or lines i d)) ≡ refused v
+        → before (preceded ps ss) (waiting (rows lines i ++ rest) r store) ≡ before (preceded ps ss) (stop r.peak store (denied v.0 v.1))
+    hears_refused ps ss v e = ap (λ x. before (preceded ps ss) x) (hears ∙ ap (λ x. going r.peak store x heard_on) e)
 
   module _ (r : Numbers) (store : List ℕ) where
     abbrev shown_on : ℕ × Numbers × List ℕ → Fed × List ℕ
@@ -95,12 +96,8 @@ module _ {Z : Type 0} (lines : List (Vec ℕ Z)) (i : ℕ) (d : Vec ℕ Z) (insi
     shows_refused ps ss v e = ap (λ x. before (preceded ps ss) x) (shows_by ∙ ap (λ x. going r.peak store x shown_on) e)
 
 -- past the last line there is nothing more to tell
-module _ {Z : Type 0} (lines : List (Vec ℕ Z)) (i : ℕ) (end : length lines ≤ i) (r : Numbers) (store : List ℕ) where
-  pub waits_out : waiting (rows lines i) r store ≡ stop r.peak store cut
-  waits_out = ap (λ (xs : List (Vec ℕ Z)). waiting (map vec_items xs) r store) (drop_all i lines end)
-
-  pub shows_out : showing (rows lines i) r store ≡ stop r.peak store cut
-  shows_out = ap (λ (xs : List (Vec ℕ Z)). showing (map vec_items xs) r store) (drop_all i lines end)
+pub rows_end : {Z : Type 0} (lines : List (Vec ℕ Z)) (i : ℕ) → length lines ≤ i → rows lines i ≡ []
+rows_end {Z} lines i end = ap (λ (xs : List (Vec ℕ Z)). map vec_items xs) (drop_all i lines end)
 
 -- a receiver that heard its delay goes on showing
 pub started : (ls : List (List ℕ)) (r r' : Numbers) (store : List ℕ) → start r ≡ granted r' → waiting ls r store ≡ showing ls r' store
@@ -121,34 +118,16 @@ started ls r r' store e = go ls (ltb r.heard r.delay) refl
     go (l ∷ ls) b q = cond-false _ _ _ late ∙ ap (λ x. going r.peak store x (λ y. showing (l ∷ ls) y store)) e
 
 -- before anything was told
-untold : (ss : List ℕ) (w : Fed × List ℕ) → ss ≡ [] → before (preceded [] ss) w ≡ w
-untold ss w e = ap (λ (x : List ℕ). before (preceded [] x) w) e
+begun : (v : Viewing) (n : ℕ) (w : Fed × List ℕ) → Begins v n → so_far v w ≡ w
+begun v n w b = ap (λ (x : List ℕ). before (preceded x (vec_items v.stocks)) w) b.0 ∙ ap (λ (x : List ℕ). before (preceded [] x) w) b.1
 
--- a tuned receiver that was told of so far
-pub told_from : {Z : Type 0} (lines : List (Vec ℕ Z)) (m n capacity : ℕ) (store ss : List ℕ) (r : Numbers) (store' : List ℕ) (w : Fed × List ℕ)
-    → tune m n capacity store ≡ granted (r, store') → ss ≡ [] → before (preceded [] ss) (waiting (rows lines 0) r store') ≡ w
-    → feeding m n capacity store (map vec_items lines) ≡ w
-told_from lines m n capacity store ss r store' w tunes none e =
-    ap (λ x. going 0 store x (λ y. waiting (map vec_items lines) y.0 y.1)) tunes
-    ∙ sym (untold ss (waiting (map vec_items lines) r store') none)
-    ∙ e
+-- a tuned receiver waits
+pub tunes_in : (m n capacity : ℕ) (store : List ℕ) (ls : List (List ℕ)) (v : Viewing) (k : ℕ) → Begins v k → (r : Numbers) (store' : List ℕ)
+    → tune m n capacity store ≡ granted (r, store') → feeding m n capacity store ls ≡ so_far v (waiting ls r store')
+tunes_in m n capacity store ls v k b r store' e = ap (λ x. going 0 store x (λ y. waiting ls y.0 y.1)) e ∙ sym (begun v k (waiting ls r store') b)
 
--- all is told
-pub all_told : (f : Fed × List ℕ) (ps ss store : List ℕ) (peak : ℕ) (e : Ending) → f ≡ before (preceded ps ss) (stop peak store e)
-    → (◌≡◌ {A = Fed} (record { shows = ps; stocks = ss; peak = peak; ending = e }) f.0) × (store ≡ f.1)
-all_told f ps ss store peak e is = (
-  ap (λ (x : List ℕ). record { shows = x; stocks = ss; peak = peak; ending = e }) (sym (append-nil ps))
-      ∙ ap (λ (x : List ℕ). record { shows = ps ++ []; stocks = x; peak = peak; ending = e }) (sym (append-nil ss))
-      ∙ ap (λ (x : Fed × List ℕ). x.0) (sym is),
-  ap (λ (x : Fed × List ℕ). x.1) (sym is),
-)
-
--- a refused start: fewer slots than the delay were heard
-pub too_early : (r : Numbers) (v : ℕ × List ℕ) → start r ≡ refused v → r.heard < r.delay
-too_early r v e = ⊎_elim
-    (λ (lt : r.heard < r.delay). lt)
-    (λ (ge : r.delay ≤ r.heard).
-    let f : ◌≡◌ {A = Outcome Numbers} (granted r) (refused v) = sym (cond-false (ltb r.heard r.delay) (refused (32, [])) (granted r) (le-ltb r.heard r.delay ge)) ∙ e in
-    let z : ◌≡◌ {A = ℕ} 0 1 = cc in
-    absurd (omega arith))
-    (cases_lt r.heard r.delay)
+-- the lines before a place and those from it on
+pub rows_split : {Z : Type 0} (lines early late : List (Vec ℕ Z)) (k : ℕ) → early ≡ take k lines → late ≡ drop k lines → map vec_items lines ≡ map vec_items early ++ map vec_items late
+rows_split {Z} lines early late k e l =
+    let whole : lines ≡ early ++ late = sym (take-append-drop k lines) ∙ ap (λ (x : List (Vec ℕ Z)). x ++ drop k lines) (sym e) ∙ ap (λ (x : List (Vec ℕ Z)). early ++ x) (sym l) in
+    ap (λ (xs : List (Vec ℕ Z)). map vec_items xs) whole ∙ map-append vec_items early late

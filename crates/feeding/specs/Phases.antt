@@ -1,11 +1,14 @@
 -- What the parts of a feeding do, on what was told before them and what is left to tell.
-use Rattle.std.specs.Prelude.{◌≡◌, ℕ, ◌<◌, ◌≤◌, List, [], ◌++◌, map, length, drop, Ok, Err, vec_items, Result, Vec}
+use Rattle.std.specs.Prelude.{◌≡◌, ℕ, ◌+◌, ◌≤◌, max, List, [], ◌∷◌, ◌++◌, map, drop, Ok, Err, vec_items, vec_len, vec_capacity, Result, Vec}
 use Rattle.receiver.specs.Stores.{stock}
 use Rattle.receiver.specs.Calls.{granted, refused, hear, show}
 use Rattle.receiver.specs.Refusals.{told}
 use Rattle.receiver.specs.declared.numbers.Numbers.{Numbers}
 use Rattle.receiver.specs.declared.refusal.Refusal.{Refusal}
-use Rattle.feeding.specs.Feeding.{Fed, Ending, denied, before, stop, waiting, showing}
+use Rattle.feeding.specs.Feeding.{Fed, denied, before, stop, waiting, showing, feeding}
+use Rattle.feeding.specs.Viewings.{ending_of}
+use Rattle.feeding.specs.declared.viewing.Stop.{Stop}
+use Rattle.feeding.specs.declared.viewing.Viewing.{Viewing}
 
 -- the lines from a place on
 abbrev pub rows : {Z : Type 0} → List (Vec ℕ Z) → ℕ → List (List ℕ)
@@ -25,18 +28,43 @@ abbrev pub ShowsLine : Numbers → List ℕ → List ℕ → Result (ℕ × ℕ)
 ShowsLine r store l (Ok x) r' store' = (show r store l ≡ granted (x.0, r', store')) × (x.1 ≡ stock r.pages store l)
 ShowsLine r store l (Err e) r' store' = (show r store l ≡ refused (told e)) × (r' ≡ r) × (store' ≡ store)
 
--- What waiting on some lines tells, once `ss` were the stocks, is what waiting on those from k on tells, once `ss'` were; or the
--- refusal. Fewer slots than the delay were heard only if the lines ended.
-abbrev pub HearsAll : {Z : Type 0} → List (Vec ℕ Z) → List ℕ → Numbers → List ℕ → Result ℕ Refusal → List ℕ → Numbers → List ℕ → Type 0
-HearsAll lines ss r store (Ok k) ss' r' store' =
-    (before (preceded [] ss) (waiting (rows lines 0) r store) ≡ before (preceded [] ss') (waiting (rows lines k) r' store'))
-    × (k ≤ length lines)
-    × (r'.heard < r'.delay → length lines ≤ k)
-    × (r'.pages ≡ r.pages)
-HearsAll lines ss r store (Err e) ss' r' store' =
-    before (preceded [] ss) (waiting (rows lines 0) r store) ≡ before (preceded [] ss') (stop r'.peak store' (denied (told e).0 (told e).1))
+-- a viewing so far, before what is left to tell
+abbrev pub so_far : Viewing → Fed × List ℕ → Fed × List ℕ
+so_far v w = before (preceded (vec_items v.shows) (vec_items v.stocks)) w
 
--- what showing on the lines from a place on tells, once `ps` were shown and `ss` were the stocks, is all told
-abbrev pub ShowsAll : {Z : Type 0} → List (Vec ℕ Z) → ℕ → List ℕ → List ℕ → Numbers → List ℕ → Ending → List ℕ → List ℕ → Numbers → List ℕ → Type 0
-ShowsAll lines i ps ss r store e ps' ss' r' store' =
-    before (preceded ps ss) (showing (rows lines i) r store) ≡ before (preceded ps' ss') (stop r'.peak store' e)
+-- the lists of a viewing have room for n slots more
+abbrev pub HasRoom : Viewing → ℕ → Type 0
+HasRoom v n = (vec_len v.shows + n ≤ vec_capacity v.shows) × (vec_len v.stocks + n ≤ vec_capacity v.stocks)
+
+-- the lists of a viewing took up no more room than for n slots
+abbrev pub GrowsBy : ℕ → Viewing → Viewing → Type 0
+GrowsBy n v v' =
+    (vec_len v'.shows ≤ vec_len v.shows + n) × (vec_capacity v'.shows ≡ vec_capacity v.shows)
+    × (vec_len v'.stocks ≤ vec_len v.stocks + n) × (vec_capacity v'.stocks ≡ vec_capacity v.stocks)
+
+-- a slot with this stock was granted
+abbrev pub Grants : Viewing → ℕ → Viewing → Type 0
+Grants v s v' =
+    (v'.shows ≡ v.shows) × (vec_items v'.stocks ≡ vec_items v.stocks ++ (s ∷ [])) × (v'.peak ≡ max v.peak s)
+    × (vec_len v'.stocks ≡ vec_len v.stocks + 1) × (vec_capacity v'.stocks ≡ vec_capacity v.stocks)
+
+-- nothing was told yet, and there is room for n slots
+abbrev pub Begins : Viewing → ℕ → Type 0
+Begins v n = (vec_items v.shows ≡ []) × (vec_items v.stocks ≡ []) × (v.peak ≡ 0) × HasRoom v n
+
+-- What waiting on some lines and the rest tells is what waiting on the rest tells once the lines were heard; or the refusal.
+abbrev pub HearsAll : {Z : Type 0} → List (Vec ℕ Z) → List (List ℕ) → Viewing → Numbers → List ℕ → Result Unit Refusal → Viewing → Numbers → List ℕ → Type 0
+HearsAll lines rest v r store (Ok _) v' r' store' =
+    so_far v (waiting (map vec_items lines ++ rest) r store) ≡ so_far v' (waiting rest r' store')
+HearsAll lines rest v r store (Err e) v' r' store' =
+    so_far v (waiting (map vec_items lines ++ rest) r store) ≡ so_far v' (stop v'.peak store' (denied (told e).0 (told e).1))
+
+-- what showing on some lines tells is all told
+abbrev pub ShowsAll : {Z : Type 0} → List (Vec ℕ Z) → Viewing → Numbers → List ℕ → Result Stop Refusal → Viewing → List ℕ → Type 0
+ShowsAll lines v r store e v' store' =
+    so_far v (showing (map vec_items lines) r store) ≡ so_far v' (stop v'.peak store' (ending_of e))
+
+-- what a feeding tells is all told
+abbrev pub Tells : {Z : Type 0} → ℕ → ℕ → ℕ → List ℕ → List (Vec ℕ Z) → Result Stop Refusal → Viewing → List ℕ → Type 0
+Tells m n capacity store lines e v' store' =
+    feeding m n capacity store (map vec_items lines) ≡ so_far v' (stop v'.peak store' (ending_of e))

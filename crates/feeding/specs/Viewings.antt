@@ -2,14 +2,15 @@
 use Rattle.std.specs.Prelude.{◌≡◌, ℕ, List, map, Ok, Err, vec_items, Result, Vec}
 use Rattle.receiver.specs.Refusals.{told}
 use Rattle.feeding.specs.Feeding.{Fed, Ending, cut, whole, denied, fed, left}
+use Rattle.receiver.specs.declared.refusal.Refusal.{Refusal}
 use Rattle.feeding.specs.declared.viewing.Stop.{Stop}
-use Rattle.feeding.specs.declared.viewing.Stop.TheVariants.{LinesEnded, FilmWhole, Refused}
+use Rattle.feeding.specs.declared.viewing.Stop.TheVariants.{LinesEnded, FilmWhole}
 use Rattle.feeding.specs.declared.viewing.Viewing.{Viewing}
 
-abbrev pub ending_of : Stop → Ending
-ending_of LinesEnded = cut
-ending_of FilmWhole = whole
-ending_of (Refused e) = denied (told e).0 (told e).1
+abbrev pub ending_of : Result Stop Refusal → Ending
+ending_of (Ok LinesEnded) = cut
+ending_of (Ok FilmWhole) = whole
+ending_of (Err e) = denied (told e).0 (told e).1
 
 abbrev pub viewed : Viewing → Fed
 viewed v = record { shows = vec_items v.shows; stocks = vec_items v.stocks; peak = v.peak; ending = ending_of v.stop }

@@ -1,112 +1,83 @@
-ghost use Rattle.std.specs.Prelude.{◌≡◌, ◌≤◌, length, IfOk, vec_len, vec_capacity};
-ghost use Rattle.feeding.specs.Phases.{HearsLine, ShowsLine, HearsAll, ShowsAll};
-ghost use Rattle.feeding.specs.Viewings.{ending_of};
+ghost use Rattle.std.specs.Prelude.{◌≡◌, ◌+◌, ◌≤◌, List, ℕ, length, OnOk};
+ghost use Rattle.feeding.specs.Phases.{HearsLine, ShowsLine, HearsAll, ShowsAll, HasRoom, GrowsBy};
 
-use crate::viewing::Stop;
+use crate::viewing::{Stop, Viewing};
 use receiver::refusal::Refusal;
-use receiver::states::{Showing, Waiting};
-use receiver::stock;
+use receiver::states::{Receiver, Showing, Waiting};
 
 // Hears one line, and answers the stock in that slot.
 fn hear_line(
-    waiting: &mut Waiting,
-    film: u16,
+    waiting: &mut Receiver<Waiting>,
     store: &mut [u8],
     line: &[u16],
 ) -> Result<u16, Refusal>
-    requires same_film { waiting.old.numbers.pages ≡ film }
     ensures hears_and_weighs { HearsLine waiting.old.numbers store.old line.now result
         waiting.new.numbers store.new }
 {
-    let stock = match stock::stock(store, film, line) {
-        Ok(stock) => stock,
-        Err(refusal) => return Err(refusal),
-    };
-    match waiting.hear(store, line) {
-        Ok(()) => Ok(stock),
-        Err(refusal) => Err(refusal),
-    }
+    let stock = waiting.stock(store, line)?;
+    waiting.hear(store, line)?;
+    Ok(stock)
 }
 
 // Shows one page, and answers it and the stock in that slot.
 fn show_line(
-    showing: &mut Showing,
-    film: u16,
+    showing: &mut Receiver<Showing>,
     store: &mut [u8],
     line: &[u16],
 ) -> Result<(u16, u16), Refusal>
-    requires same_film { showing.old.numbers.pages ≡ film }
     ensures shows_and_weighs { ShowsLine showing.old.numbers store.old line.now result
         showing.new.numbers store.new }
 {
-    let stock = match stock::stock(store, film, line) {
-        Ok(stock) => stock,
-        Err(refusal) => return Err(refusal),
-    };
-    match showing.show(store, line) {
-        Ok(page) => Ok((page, stock)),
-        Err(refusal) => Err(refusal),
-    }
+    let stock = showing.stock(store, line)?;
+    let page = showing.show(store, line)?;
+    Ok((page, stock))
 }
 
-// Hears lines for the delay; how many there were, or the refusal.
+// Hears lines, no more than are left of the delay.
 pub fn hear_all(
-    waiting: &mut Waiting,
-    delay: u16,
-    film: u16,
+    waiting: &mut Receiver<Waiting>,
     store: &mut [u8],
     lines: &[Vec<u16>],
-    stocks: &mut Vec<u16>,
-) -> Result<usize, Refusal>
-    requires tuned { (waiting.old.numbers.delay ≡ delay) × (waiting.old.numbers.pages ≡ film)
-        × (waiting.old.numbers.heard ≡ 0) }
-    requires room { (vec_len stocks.old ≡ 0) × (length lines.now ≤ vec_capacity stocks.old) }
-    ensures told_so_far { HearsAll lines.now
-        stocks.old.items waiting.old.numbers store.old result
-        stocks.new.items waiting.new.numbers store.new }
-    ensures room_left { IfOk result (λ k. vec_len stocks.new ≡ k)
-        × (vec_capacity stocks.new ≡ vec_capacity stocks.old) }
+    viewing: &mut Viewing,
+) -> Result<(), Refusal>
+    requires early { waiting.old.numbers.heard + length lines.now ≤ waiting.old.numbers.delay }
+    requires room { HasRoom viewing.old (length lines.now) }
+    requires same_peak { viewing.old.peak ≡ waiting.old.numbers.peak }
+    ensures told_so_far { (rest : List (List ℕ)) → HearsAll lines.now rest
+        viewing.old waiting.old.numbers store.old result
+        viewing.new waiting.new.numbers store.new }
+    ensures each_heard { OnOk result
+        ((waiting.new.numbers.heard ≡ waiting.old.numbers.heard + length lines.now)
+        × (waiting.new.numbers.delay ≡ waiting.old.numbers.delay)) }
+    ensures same_peak { viewing.new.peak ≡ waiting.new.numbers.peak }
+    ensures room_used { GrowsBy (length lines.now) viewing.old viewing.new }
 {
-    let count = lines.len().min(delay as usize);
-    for i in 0..count {
-        match hear_line(waiting, film, store, lines[i].as_slice()) {
-            Ok(stock) => stocks.push_reserved(stock),
-            Err(refusal) => return Err(refusal),
-        }
+    for line in lines {
+        viewing.grant(hear_line(waiting, store, line.as_slice())?);
     }
-    Ok(count)
+    Ok(())
 }
 
-// Shows pages, one a line, from a place of the lines on, until the film is whole, the lines end or a call is refused.
+// Shows pages, one a line, until the film is whole, the lines end or a call is refused.
 pub fn show_all(
-    showing: &mut Showing,
-    film: u16,
+    showing: &mut Receiver<Showing>,
     store: &mut [u8],
     lines: &[Vec<u16>],
-    from: usize,
-    shows: &mut Vec<u16>,
-    stocks: &mut Vec<u16>,
-) -> Stop
-    requires same_film { showing.old.numbers.pages ≡ film }
-    requires within { from ≤ length lines.now }
-    requires room { (vec_len shows.old ≤ from) × (length lines.now ≤ vec_capacity shows.old)
-        × (vec_len stocks.old ≤ from) × (length lines.now ≤ vec_capacity stocks.old) }
-    ensures all_told { ShowsAll lines.now from
-        shows.old.items stocks.old.items showing.old.numbers store.old
-        (ending_of result)
-        shows.new.items stocks.new.items showing.new.numbers store.new }
+    viewing: &mut Viewing,
+) -> Result<Stop, Refusal>
+    requires room { HasRoom viewing.old (length lines.now) }
+    requires same_peak { viewing.old.peak ≡ showing.old.numbers.peak }
+    ensures all_told { ShowsAll lines.now
+        viewing.old showing.old.numbers store.old result
+        viewing.new store.new }
 {
-    for i in from..lines.len() {
-        match show_line(showing, film, store, lines[i].as_slice()) {
-            Ok((page, stock)) => {
-                shows.push_reserved(page);
-                stocks.push_reserved(stock);
-                if page == film {
-                    return Stop::FilmWhole;
-                }
-            }
-            Err(refusal) => return Stop::Refused(refusal),
+    for line in lines {
+        let (page, stock) = show_line(showing, store, line.as_slice())?;
+        viewing.shows.push_reserved(page);
+        viewing.grant(stock);
+        if page == showing.pages() {
+            return Ok(Stop::FilmWhole);
         }
     }
-    Stop::LinesEnded
+    Ok(Stop::LinesEnded)
 }

@@ -1,6 +1,9 @@
 -- How many numbers pass a test.
-use Rattle.std.proofs.Common.{◌≡◌, ℕ, zero, suc, ◌+◌, ◌<◌, ◌≤◌, Bool, true, false, ◌||◌, ltb, ◌≢◌, sym, refl, ap, ◌∙◌, subst, ⊎_elim, arith}
+use Rattle.std.proofs.Common.{◌≡◌, ℕ, zero, suc, ◌+◌, ◌<◌, ◌≤◌, Bool, true, false, ◌||◌, ltb, List, length, get_or, take, ◌≢◌, sym, refl, ap, ◌∙◌, subst, ⊎_elim, arith}
 use Rattle.std.proofs.lemmas.Bool.{cases_eq, cases_lt, lt-ltb, le-ltb}
+use Rattle.std.specs.List.{count_by}
+use Rattle.std.proofs.lemmas.List.{take_all}
+use Rattle.std.proofs.lemmas.List.Sums.{count_by_more_yes, count_by_more_no}
 use Rattle.receiver.specs.Count.{count, bit}
 
 pub bit_le : (b : Bool) → bit b ≤ 1
@@ -80,3 +83,18 @@ count_none (suc n) p h =
 
 pub count_more : (n : ℕ) (p : ℕ → Bool) → count (n + 1) p ≡ count n p + bit (p n)
 count_more n p = let e : n + 1 ≡ suc n = omega arith in ap (λ x. count x p) e
+
+-- the numbers of a list that pass a test, counted by their places
+count_upto : (p : ℕ → Bool) (xs : List ℕ) (n : ℕ) → n ≤ length xs → count n (λ j. p (get_or xs j 0)) ≡ count_by p (take n xs)
+count_upto p xs zero l = refl
+count_upto p xs (suc n) l =
+    let before = count_upto p xs n (omega arith) in
+    let more : (b : Bool) → p (get_or xs n 0) ≡ b → count n (λ j. p (get_or xs j 0)) + bit b ≡ count_by p (take (n + 1) xs) = λ b. elim b as (λ b. p (get_or xs n 0) ≡ b → count n (λ j. p (get_or xs j 0)) + bit b ≡ count_by p (take (n + 1) xs)) [
+      | true ↦ λ e. let more = count_by_more_yes p xs n 0 (omega arith) e in omega arith
+      | false ↦ λ e. let more = count_by_more_no p xs n 0 (omega arith) e in omega arith
+    ] in
+    let e : n + 1 ≡ suc n = omega arith in
+    subst (λ x. count n (λ j. p (get_or xs j 0)) + bit (p (get_or xs n 0)) ≡ count_by p (take x xs)) e (more (p (get_or xs n 0)) refl)
+
+pub count_all : (p : ℕ → Bool) (xs : List ℕ) → count (length xs) (λ j. p (get_or xs j 0)) ≡ count_by p xs
+count_all p xs = count_upto p xs (length xs) (omega arith) ∙ ap (λ ys. count_by p ys) (take_all (length xs) xs (omega arith))

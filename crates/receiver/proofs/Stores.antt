@@ -1,11 +1,12 @@
 -- What a store holds, place by place, once a slot's pages came.
 use Rattle.std.proofs.Common.{◌≡◌, ℕ, ◌+◌, ◌-◌, ◌<◌, ◌≤◌, Bool, true, false, cond, not, ◌&&◌, ◌||◌, eqb, leb, List, [], ◌∷◌, length, get_or, set, sym, refl, ap, ◌∙◌, subst, ⊎_elim, arith, length-set, get_or-set_other, get_or-set_same}
 use Rattle.std.proofs.lemmas.Bool.{cases_eq, le-leb, eq-eqb, ne_eqb, and_parts, and_from, and_right, leb-true, not-true, or_left}
+use Rattle.std.specs.List.{list_any}
 use Rattle.receiver.specs.Count.{count, bit}
 use Rattle.receiver.specs.Stores.{member, unheard, wanted, put, taken, held, stock, fresh}
 use Rattle.receiver.proofs.Counts.{count_same, count_le, count_or, count_one, count_none}
 
-length_put : (n : ℕ) (store : List ℕ) (p : ℕ) → length (put n store p) ≡ length store
+pub length_put : (n : ℕ) (store : List ℕ) (p : ℕ) → length (put n store p) ≡ length store
 length_put n store p = elim (wanted n store p) as (λ b. length (cond b (set store (p - 1) 1) store) ≡ length store) [ true ↦ length-set _ _ _ | false ↦ refl ]
 
 pub length_taken : (n : ℕ) (store ps : List ℕ) → length (taken n store ps) ≡ length store
@@ -124,3 +125,11 @@ stock_is n store ps room =
 -- and no more than the film has pages
 pub stock_le : (n : ℕ) (store ps : List ℕ) → stock n store ps ≤ n
 stock_le n store ps = count_le n (λ j. eqb (get_or (taken n store ps) j 0) 1)
+
+-- a list's membership, in std's words
+pub member_any : (p : ℕ) (xs : List ℕ) → list_any (λ y. eqb y p) xs ≡ member p xs
+member_any p [] = refl
+member_any p (x ∷ xs) = ap (λ b. eqb x p || b) (member_any p xs) ∙ ap (λ b. b || member p xs) (⊎_elim
+    (λ e. eq-eqb x p e ∙ sym (eq-eqb p x (sym e)))
+    (λ ne. ne_eqb x p ne ∙ sym (ne_eqb p x (λ e. ne (sym e))))
+    (cases_eq x p))

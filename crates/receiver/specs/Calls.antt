@@ -27,6 +27,10 @@ tune m n capacity store =
 abbrev pub weigh : ℕ → List ℕ → List ℕ → Outcome ℕ
 weigh n store ps = cond (nat_lt (length store) n) (refused (31, [])) (granted (stock n store ps))
 
+-- a slot had this stock
+abbrev pub peaked : Numbers → ℕ → Numbers
+peaked r s = record { delay = r.delay; pages = r.pages; capacity = r.capacity; heard = r.heard; shown = r.shown; peak = max r.peak s }
+
 -- one slot more was heard, with this stock
 abbrev pub heard_more : Numbers → ℕ → Numbers
 heard_more r s = record { delay = r.delay; pages = r.pages; capacity = r.capacity; heard = r.heard + 1; shown = r.shown; peak = max r.peak s }

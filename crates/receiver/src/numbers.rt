@@ -1,3 +1,9 @@
+ghost use Rattle.std.specs.Prelude.{length};
+ghost use Rattle.receiver.specs.Promises.{Takes};
+
+use crate::refusal::Refusal;
+use crate::slot;
+
 // What a receiver knows of its film and of itself, in plain numbers. Its store is not among them: it is lent at each call.
 #[derive(Clone, Copy)]
 pub struct Numbers {
@@ -13,4 +19,20 @@ pub struct Numbers {
     pub shown: u16,
     // The greatest stock of a slot so far.
     pub peak: u16,
+}
+
+impl Numbers {
+    // Holds the wanted ones among a slot's pages, if the stock that they make is within the capacity.
+    pub(crate) fn take_in(&mut self, film: &mut [u8], pages: &[u16]) -> Result<(), Refusal>
+        ensures takes_or_refuses { Takes (length film.old) pages.now
+            self.old film.old result self.new film.new }
+    {
+        let stock = slot::stock_of(film, pages);
+        if stock > usize::from(self.capacity) {
+            return Err(Refusal::Full);
+        }
+        slot::take_in(film, pages);
+        self.peak = self.peak.max(stock as u16);
+        Ok(())
+    }
 }

@@ -8,8 +8,8 @@ use crate::slot;
 pub fn stock(store: &[u8], film: u16, pages: &[u16]) -> Result<u16, Refusal>
     ensures weighs_or_refuses { Weighs (weigh film store.now pages.now) result }
 {
-    if store.len() < film as usize {
-        return Err(Refusal::OutOfRange);
-    }
-    Ok(slot::stock_of(store, film, pages))
+    let (bytes, _) = store
+        .split_at_checked(usize::from(film))
+        .ok_or(Refusal::OutOfRange)?;
+    Ok(slot::stock_of(bytes, pages) as u16)
 }

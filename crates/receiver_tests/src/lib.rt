@@ -6,7 +6,7 @@ mod tests {
     use feeding::feed;
     use feeding::viewing::Stop;
     use receiver::refusal::Refusal;
-    use receiver::states::Waiting;
+    use receiver::states::Receiver;
     use std::alloc::Global;
     use std::test::Fail;
     use survey::refusal::SurveyRefusal;
@@ -32,11 +32,11 @@ mod tests {
         let heap = rt.alloc();
         let mut store = [9; 5];
         let from_0 = feed(heap, 4, 5, 4, &mut store, nine_lines(heap, 0)?.as_slice())?;
-        assert!(rt; from_0.stop == Stop::FilmWhole && from_0.peak == 4);
+        assert!(rt; from_0.stop == Ok(Stop::FilmWhole) && from_0.peak == 4);
         assert!(rt; from_0.shows.as_slice() == [1, 2, 3, 4, 5].as_slice());
         assert!(rt; from_0.stocks.as_slice() == [1, 2, 3, 4, 4, 4, 3, 2, 1].as_slice());
         let from_1 = feed(heap, 4, 5, 4, &mut store, nine_lines(heap, 1)?.as_slice())?;
-        assert!(rt; from_1.stop == Stop::Refused(Refusal::Full) && from_1.peak == 4);
+        assert!(rt; from_1.stop == Err(Refusal::Full) && from_1.peak == 4);
         assert!(rt; from_1.shows.len() == 0 && from_1.stocks.len() == 4);
         Ok(())
     }
@@ -74,7 +74,7 @@ mod tests {
     #[test]
     fn hears_and_starts(rt: HostRuntime) -> Result<(), Fail> {
         let mut store = [7; 3];
-        let mut waiting = Waiting::tune(1, 2, 2, &mut store)?;
+        let mut waiting = Receiver::tune(1, 2, 2, &mut store)?;
         assert!(rt; store[1] == 0 && store[2] == 7);
         assert!(rt; waiting.hear(&mut store, &[2, 0, 3, 2, 9]).is_ok());
         assert!(rt; waiting.hear(&mut store, &[1]) == Err(Refusal::HeardAll));

@@ -1,29 +1,33 @@
-ghost use Rattle.std.specs.Prelude.{◌≡◌};
-ghost use Rattle.receiver.specs.Calls.{tune, hear, start, finish};
+ghost use Rattle.receiver.specs.Calls.{tune, hear, start};
 ghost use Rattle.receiver.specs.Promises.{Tunes, Hears, Starts};
 
-use super::{Showing, Waiting};
+use super::{Receiver, Showing, Waiting};
 use crate::numbers::Numbers;
 use crate::refusal::Refusal;
-use crate::slot;
 
-impl Waiting {
+// The longest delay, and the most pages of a film.
+const MOST: u16 = 1_024;
+
+impl Receiver<Waiting> {
     // A receiver that tunes in to a film; the bytes of its pages in the store are zeroed.
-    pub fn tune(delay: u16, pages: u16, capacity: u16, store: &mut [u8]) -> Result<Waiting, Refusal>
+    pub fn tune(
+        delay: u16,
+        pages: u16,
+        capacity: u16,
+        store: &mut [u8],
+    ) -> Result<Receiver<Waiting>, Refusal>
         ensures tunes_or_refuses { Tunes
             (tune delay pages capacity store.old) store.old result store.new }
     {
-        if delay < 1
-            || delay > 1024
-            || pages < 1
-            || pages > 1024
-            || capacity > pages
-            || store.len() < pages as usize
-        {
+        let sizes = 1..=MOST;
+        if !sizes.contains(&delay) || !sizes.contains(&pages) || capacity > pages {
             return Err(Refusal::OutOfRange);
         }
-        slot::clear(store, pages);
-        Ok(Waiting {
+        let (film, _) = store
+            .split_at_mut_checked(usize::from(pages))
+            .ok_or(Refusal::OutOfRange)?;
+        film.fill(0);
+        Ok(Receiver {
             numbers: Numbers {
                 delay,
                 pages,
@@ -32,6 +36,7 @@ impl Waiting {
                 shown: 0,
                 peak: 0,
             },
+            state: Waiting,
         })
     }
 
@@ -41,39 +46,28 @@ impl Waiting {
             (hear self.old.numbers store.old pages.now)
             self.old.numbers store.old result self.new.numbers store.new }
     {
-        let film = self.numbers.pages;
-        if store.len() < film as usize {
-            return Err(Refusal::OutOfRange);
-        }
-        if self.numbers.heard >= self.numbers.delay {
+        let Numbers { delay, heard, .. } = self.numbers;
+        let (film, _) = store
+            .split_at_mut_checked(usize::from(self.numbers.pages))
+            .ok_or(Refusal::OutOfRange)?;
+        if heard >= delay {
             return Err(Refusal::HeardAll);
         }
-        let stock = slot::stock_of(store, film, pages);
-        if stock > self.numbers.capacity {
-            return Err(Refusal::Full);
-        }
-        slot::take_in(store, film, pages);
-        self.numbers.heard += 1;
-        self.numbers.peak = self.numbers.peak.max(stock);
+        self.numbers.take_in(film, pages)?;
+        self.numbers.heard = heard + 1;
         Ok(())
     }
 
     // Starts the film, or hands the receiver back where it heard too few slots.
-    pub fn start(self) -> Result<Showing, (Refusal, Waiting)>
+    pub fn start(self) -> Result<Receiver<Showing>, (Refusal, Receiver<Waiting>)>
         ensures starts_or_refuses { Starts (start self.numbers) self.numbers result }
     {
         if self.numbers.heard < self.numbers.delay {
             return Err((Refusal::TooEarly, self));
         }
-        Ok(Showing {
+        Ok(Receiver {
             numbers: self.numbers,
+            state: Showing,
         })
-    }
-
-    // Ends the receiver: the pages that it showed, which are none, and its peak.
-    pub fn finish(self) -> (u16, u16)
-        ensures shown_and_peak { result ≡ finish self.numbers }
-    {
-        (self.numbers.shown, self.numbers.peak)
     }
 }

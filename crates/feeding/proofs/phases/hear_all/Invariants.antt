@@ -1,15 +1,14 @@
-use Rattle.std.proofs.Common.{◌≡◌, [], vec_items, vec_len, vec_capacity}
-use Rattle.feeding.specs.Feeding.{before, waiting}
-use Rattle.feeding.specs.Phases.{rows, preceded}
+use Rattle.std.proofs.Common.{◌≡◌, ℕ, ◌+◌, List, ◌++◌, map, vec_items}
+use Rattle.feeding.specs.Feeding.{waiting}
+use Rattle.feeding.specs.Phases.{rows, so_far, GrowsBy}
 use Rattle.feeding.proofs.phases.hear_all.Given as goal
 
 -- what was told and is to be told stays the same
-abbrev pub invariant-loop-i : goal.invariant-loop-i
-invariant-loop-i l =
-    (before (preceded [] (vec_items l.initial.stocks)) (waiting (rows l.lines 0) l.initial.waiting.numbers l.initial.store)
-    ≡ before (preceded [] (vec_items l.stocks)) (waiting (rows l.lines l.i) l.waiting.numbers l.store))
-    × (l.waiting.numbers.delay ≡ l.delay)
-    × (l.waiting.numbers.pages ≡ l.film)
-    × (l.waiting.numbers.heard ≡ l.i)
-    × (vec_len l.stocks ≡ l.i)
-    × (vec_capacity l.stocks ≡ vec_capacity l.initial.stocks)
+abbrev pub invariant-loop-line : goal.invariant-loop-line
+invariant-loop-line l = record {
+  told : (rest : List (List ℕ)) → so_far l.initial.viewing (waiting (map vec_items l.lines ++ rest) l.initial.waiting.numbers l.initial.store) ≡ so_far l.viewing (waiting (rows l.lines l.line-index ++ rest) l.waiting.numbers l.store);
+  delay : l.waiting.numbers.delay ≡ l.initial.waiting.numbers.delay;
+  heard : l.waiting.numbers.heard ≡ l.initial.waiting.numbers.heard + l.line-index;
+  peak : l.viewing.peak ≡ l.waiting.numbers.peak;
+  grown : GrowsBy l.line-index l.initial.viewing l.viewing;
+}

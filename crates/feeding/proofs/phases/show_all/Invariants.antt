@@ -1,15 +1,12 @@
-use Rattle.std.proofs.Common.{◌≡◌, ◌≤◌, length, vec_items, vec_len, vec_capacity}
-use Rattle.feeding.specs.Feeding.{before, showing}
-use Rattle.feeding.specs.Phases.{rows, preceded}
+use Rattle.std.proofs.Common.{◌≡◌, map, vec_items}
+use Rattle.feeding.specs.Feeding.{showing}
+use Rattle.feeding.specs.Phases.{rows, so_far, GrowsBy}
 use Rattle.feeding.proofs.phases.show_all.Given as goal
 
 -- what was told and is to be told stays the same
-abbrev pub invariant-loop-i : goal.invariant-loop-i
-invariant-loop-i l =
-    (before (preceded (vec_items l.initial.shows) (vec_items l.initial.stocks)) (showing (rows l.lines l.from) l.initial.showing.numbers l.initial.store)
-    ≡ before (preceded (vec_items l.shows) (vec_items l.stocks)) (showing (rows l.lines l.i) l.showing.numbers l.store))
-    × (l.showing.numbers.pages ≡ l.film)
-    × (vec_len l.shows ≤ l.i)
-    × (length l.lines ≤ vec_capacity l.shows)
-    × (vec_len l.stocks ≤ l.i)
-    × (length l.lines ≤ vec_capacity l.stocks)
+abbrev pub invariant-loop-line : goal.invariant-loop-line
+invariant-loop-line l = record {
+  told : so_far l.initial.viewing (showing (map vec_items l.lines) l.initial.showing.numbers l.initial.store) ≡ so_far l.viewing (showing (rows l.lines l.line-index) l.showing.numbers l.store);
+  peak : l.viewing.peak ≡ l.showing.numbers.peak;
+  grown : GrowsBy l.line-index l.initial.viewing l.viewing;
+}
