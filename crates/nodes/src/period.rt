@@ -1,4 +1,4 @@
-ghost use Rattle.std.specs.Prelude.{◌≡◌, ◌<◌, length, MatchBool};
+ghost use Rattle.std.specs.Prelude.{◌≡◌, ◌<◌, length, MatchBool, MatchOption};
 ghost use Rattle.numbers.specs.Computed.{lcm_of_all};
 ghost use Rattle.nodes.specs.Answers.{AllRight, Askable, NodeLong, PeriodAnswer, PeriodLeast, Right};
 ghost use Rattle.nodes.specs.Finding.{AllPeriods, ChildrenKnown, KnownFrom, PeriodsAnswer, Within, WrongAnswer, period_in};
@@ -18,10 +18,8 @@ const MOST_CHANNELS: u8 = 8;
 fn askable(nodes: usize, channels: u8) -> bool
     ensures decides { MatchBool result (Askable nodes channels) (Askable nodes channels → ⊥) }
 {
-    1 <= nodes
-        && nodes <= MOST_NODES
-        && 1 <= channels
-        && channels <= MOST_CHANNELS
+    (1..=MOST_NODES).contains(&nodes)
+        && (1..=MOST_CHANNELS).contains(&channels)
         && usize::from(channels) <= nodes
 }
 
@@ -43,12 +41,11 @@ fn is_right(node: Node, number: usize, count: usize) -> bool
 fn first_wrong(nodes: &[Node]) -> Option<usize>
     ensures lowest_wrong { WrongAnswer nodes.now result }
 {
-    for number in 0..nodes.len() {
-        if !is_right(nodes[number], number, nodes.len()) {
-            return Some(number);
-        }
-    }
-    None
+    let count = nodes.len();
+    nodes
+        .iter()
+        .enumerate()
+        .position(|(number, node)| !is_right(*node, number, count))
 }
 
 // The period that some cycles have together, of which none is 0; `None` as soon as it is too long.
@@ -58,10 +55,7 @@ fn all_joined(cycles: &[u32]) -> Option<u32>
 {
     let mut period = 1;
     for cycle in cycles {
-        let Some(next) = joined(Some(period), *cycle) else {
-            return None;
-        };
-        period = next;
+        period = joined(Some(period), *cycle)?;
     }
     Some(period)
 }
@@ -71,10 +65,7 @@ fn unless_long(period: u32) -> Option<u32>
     requires some { 0 < period }
     ensures within_longest { Within period result }
 {
-    if period > LONGEST {
-        return None;
-    }
-    Some(period)
+    (period <= LONGEST).then_some(period)
 }
 
 // The period of a node, from a list in which those of its children stand; `None` where it is too long.
@@ -87,27 +78,22 @@ fn period_of(node: Node, periods: &[u32]) -> Option<u32>
         Node::Inner(inner) => {
             let first = usize::from(inner.first_child);
             let end = first + usize::from(inner.degree);
-            let Some(together) = all_joined(&periods[first..end]) else {
-                return None;
-            };
+            let together = all_joined(&periods[first..end])?;
             unless_long(u32::from(inner.degree) * together)
         }
     }
 }
 
-// Sets the period of each node, from the last node to the first; false as soon as one is too long.
-fn fill_periods(periods: &mut [u32], nodes: &[Node]) -> bool
+// Sets the period of each node, from the last node to the first; `None` as soon as one is too long.
+fn fill_periods(periods: &mut [u32], nodes: &[Node]) -> Option<()>
     requires one_each { length periods.old ≡ length nodes.now }
     requires all_right { AllRight nodes.now }
-    ensures filled { MatchBool result (KnownFrom nodes.now periods.new 0) (NodeLong nodes.now) }
+    ensures filled { MatchOption result (NodeLong nodes.now) (λ _. KnownFrom nodes.now periods.new 0) }
 {
-    for number in (0..nodes.len()).rev() {
-        let Some(period) = period_of(nodes[number], periods) else {
-            return false;
-        };
-        periods[number] = period;
+    for (number, node) in nodes.iter().enumerate().rev() {
+        periods[number] = period_of(*node, periods)?;
     }
-    true
+    Some(())
 }
 
 // The period of each node of a tree in which all nodes are right.
@@ -116,9 +102,7 @@ fn node_periods(heap: Global, nodes: &[Node]) -> Result<Vec<u32>, Refusal>
     ensures each_or_refusal { PeriodsAnswer nodes.now result }
 {
     let mut periods = Vec::from_elem(heap, 1, nodes.len())?;
-    if !fill_periods(periods.as_mut_slice(), nodes) {
-        return Err(Refusal::PeriodTooLong);
-    }
+    fill_periods(periods.as_mut_slice(), nodes).ok_or(Refusal::PeriodTooLong)?;
     Ok(periods)
 }
 
@@ -134,10 +118,7 @@ fn judged(heap: Global, nodes: &[Node], channels: u8) -> Result<u32, Refusal>
     }
     let periods = node_periods(heap, nodes)?;
     let roots = usize::from(channels);
-    let Some(period) = all_joined(&periods.as_slice()[0..roots]) else {
-        return Err(Refusal::PeriodTooLong);
-    };
-    Ok(period)
+    all_joined(&periods.as_slice()[..roots]).ok_or(Refusal::PeriodTooLong)
 }
 
 // The period of the tree whose roots are the first nodes, one for each channel: the slots after which all of them have

@@ -25,9 +25,6 @@ pub fn lcm_within(a: u32, b: u32, ceiling: u32) -> Option<u32>
     if common == 0 {
         return Some(0);
     }
-    let least = u64::from(a / common) * u64::from(b);
-    if least > u64::from(ceiling) {
-        return None;
-    }
-    Some(least as u32)
+    let least = (a / common).checked_mul(b)?;
+    (least <= ceiling).then_some(least)
 }

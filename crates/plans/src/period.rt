@@ -9,8 +9,6 @@ pub fn joined(so_far: Option<u32>, cycle: u32) -> Option<u32>
     ensures least_within_longest { Joins so_far cycle result }
     ensures joins_cycle { (xs : List ℕ) → 0 < cycle → PeriodOf xs so_far → PeriodOf (xs ++ (cycle ∷ [])) result }
 {
-    let Some(period) = so_far else {
-        return None;
-    };
+    let period = so_far?;
     numbers::lcm_within(period, cycle, LONGEST)
 }

@@ -1,26 +1,29 @@
--- The lowest page among some rows, one row after the other.
-use Rattle.std.proofs.Common.{◌≡◌, ℕ, ◌+◌, ◌<◌, min, List, [], ◌∷◌, ◌++◌, length, get_or, take, Some, None, Option, sym, refl, ap, ◌∙◌, arith}
-use Rattle.std.proofs.lemmas.List.{take_more}
+-- The lowest page among some rows is the least of the pages of those that fit.
+use Rattle.std.proofs.Common.{◌≡◌, ℕ, min, Bool, true, false, cond, List, [], ◌∷◌, map, filter, Some, None, refl, ap, ◌∙◌, sym, arith}
+use Rattle.std.specs.List.{reduce, fold}
 use Rattle.records.specs.declared.kinds.Row.{Row}
-use Rattle.rows.specs.Rows.{lower, offered, lowest}
+use Rattle.rows.specs.Rows.{fitting, lower, offered, lowest}
 
 min_assoc : (a b c : ℕ) → min (min a b) c ≡ min a (min b c)
 min_assoc a b c = omega arith
 
-lower_assoc : (p q r : Option ℕ) → lower (lower p q) r ≡ lower p (lower q r)
-lower_assoc None q r = refl
-lower_assoc (Some a) None r = refl
-lower_assoc (Some a) (Some b) None = refl
-lower_assoc (Some a) (Some b) (Some c) = ap (λ n. Some n) (min_assoc a b c)
+abbrev pub pages : List Row → ℕ → ℕ → List ℕ
+pages rs k u = map (λ r. r.page) (filter (fitting k u) rs)
 
-lower_none : (p : Option ℕ) → lower p None ≡ p
-lower_none None = refl
-lower_none (Some a) = refl
+-- one page more in front
+lower_fold : (p q : ℕ) (ps : List ℕ) → min p (fold min q ps) ≡ fold min (min p q) ps
+lower_fold p q [] = refl
+lower_fold p q (x ∷ ps) = lower_fold p (min q x) ps ∙ ap (λ m. fold min m ps) (sym (min_assoc p q x))
 
-lowest_push : (rs : List Row) (r : Row) (k u : ℕ) → lowest (rs ++ r ∷ []) k u ≡ lower (lowest rs k u) (offered k u r)
-lowest_push [] r k u = lower_none (offered k u r)
-lowest_push (x ∷ rs) r k u = ap (lower (offered k u x)) (lowest_push rs r k u) ∙ sym (lower_assoc (offered k u x) (lowest rs k u) (offered k u r))
+lower_least : (p : ℕ) (ps : List ℕ) → lower (Some p) (reduce min ps) ≡ reduce min (p ∷ ps)
+lower_least p [] = refl
+lower_least p (q ∷ ps) = ap (λ m. Some m) (lower_fold p q ps)
 
--- one row more
-pub lowest_more : (rs : List Row) (i k u : ℕ) (d : Row) → i < length rs → lowest (take (i + 1) rs) k u ≡ lower (lowest (take i rs) k u) (offered k u (get_or rs i d))
-lowest_more rs i k u d h = ap (λ l. lowest l k u) (take_more rs i d h) ∙ lowest_push (take i rs) (get_or rs i d) k u
+-- and a row that fits or not
+row_more : (b : Bool) (r : Row) (rs : List Row) → lower (cond b (Some r.page) None) (reduce min (map (λ r. r.page) rs)) ≡ reduce min (map (λ r. r.page) (cond b (r ∷ rs) rs))
+row_more true r rs = lower_least r.page (map (λ r. r.page) rs)
+row_more false r rs = refl
+
+pub lowest_is : (rs : List Row) (k u : ℕ) → lowest rs k u ≡ reduce min (pages rs k u)
+lowest_is [] k u = refl
+lowest_is (r ∷ rs) k u = ap (lower (offered k u r)) (lowest_is rs k u) ∙ row_more (fitting k u r) r (filter (fitting k u) rs)

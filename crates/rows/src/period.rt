@@ -8,12 +8,12 @@ use records::kinds::Row;
 pub fn rows_period(rows: &[Row]) -> Result<u32, Refusal>
     ensures least_common_multiple { RowsPeriod rows.now result }
 {
-    let mut period = Some(1);
+    let mut period = 1;
     for row in rows {
         if row.period == 0 {
             return Err(Refusal::PeriodTooLong);
         }
-        period = joined(period, row.period);
+        period = joined(Some(period), row.period).ok_or(Refusal::PeriodTooLong)?;
     }
-    period.ok_or(Refusal::PeriodTooLong)
+    Ok(period)
 }

@@ -1,5 +1,5 @@
 -- After its period a node carries the same again.
-use Rattle.std.proofs.Common.{◌≡◌, ℕ, zero, suc, ◌+◌, ◌-◌, ◌*◌, ◌/◌, ◌%◌, ◌^◌, ◌<◌, ◌≤◌, List, [], ◌∷◌, length, get_or, take, drop, Ok, Err, Result, sym, refl, ap, ◌∙◌, subst, inl, inr, mod-lt, mul_assoc, mul_comm, arith, le-ltb, ne_eqb}
+use Rattle.std.proofs.Common.{◌≡◌, ℕ, zero, suc, ◌+◌, ◌-◌, ◌*◌, ◌/◌, ◌%◌, ◌^◌, ◌<◌, ◌≤◌, List, length, get_or, take, drop, Ok, Err, Result, sym, refl, ap, ◌∙◌, subst, inl, inr, mod-lt, mul_assoc, mul_comm, arith, le-ltb, ne_eqb}
 use native.Mathlib.Nat.{add-mul-div_right, add-mul-mod_self_right, mod-add-div'}
 use Rattle.std.proofs.lemmas.List.{get_or-take, get_or-drop, length-take-le, length-drop}
 use Rattle.std.proofs.lemmas.Bool.{cases_lt}
@@ -8,31 +8,24 @@ use Rattle.records.specs.declared.kinds.Node.{Node}
 use Rattle.records.specs.declared.kinds.Node.TheVariants as node
 use Rattle.numbers.specs.Computed.{lcm_of_all}
 use Rattle.numbers.specs.Divisors.{Divides, MultipleOfAll}
-use Rattle.numbers.proofs.All.{lcm_of_all_is}
+use Rattle.numbers.proofs.All.{multiple_at, lcm_of_all_is}
 use Rattle.numbers.proofs.Dividing.{divides_times}
 use Rattle.plans.specs.declared.refusal.Refusal.{Refusal}
 use Rattle.nodes.specs.Answers.{AllRight, Right, Planned}
 use Rattle.nodes.specs.Finding.{period_in}
 use Rattle.nodes.specs.Periods.{node_periods}
-use Rattle.tree.specs.Plans.{TreeOf, PlanAnswer, PlanComesRound, ComesRound}
+use Rattle.tree.specs.Plans.{LentTree, TreeOf, PlanAnswer, PlanComesRound, ComesRound}
 use Rattle.nodes.specs.Turns.{node_at, handed, carried, tree}
-use Rattle.tree.specs.declared.plan.Tree.{Tree}
 use Rattle.nodes.proofs.Known.{length_periods}
 use Rattle.nodes.proofs.Least.{period_among}
 use Rattle.tree.proofs.Steps.{carried_past, carried_at, hands_on}
 
--- a multiple of all of some numbers is one of each
-multiple_at : (xs : List ℕ) (m j : ℕ) → j < length xs → MultipleOfAll xs m → Divides (get_or xs j 0) m
-multiple_at [] m j h d = absurd (omega (arith, h))
-multiple_at (x ∷ xs) m zero h d = d.0
-multiple_at (x ∷ xs) m (suc j) h d = multiple_at xs m j (omega (arith, h)) d.1
-
--- the same of a part of a list, by the places in the whole
+-- a multiple of all of a part of a list is one of each, by the places in the whole
 multiple_part : (xs : List ℕ) (a d m j : ℕ) → a + d ≤ length xs → j < d → MultipleOfAll (take d (drop a xs)) m → Divides (get_or xs (a + j) 0) m
 multiple_part xs a d m j there low all =
     let room : d ≤ length (drop a xs) = simp length-drop (omega arith) in
     subst (λ (p : ℕ). Divides p m) (get_or-take d (drop a xs) j 0 low ∙ get_or-drop a xs j 0)
-    (multiple_at (take d (drop a xs)) m j (omega (arith, low, length-take-le d (drop a xs) room)) all)
+    (multiple_at (take d (drop a xs)) m j 0 (omega (arith, low, length-take-le d (drop a xs) room)) all)
 
 module _ (nodes : List Node) (right : AllRight nodes) where
   abbrev pub period : ℕ → ℕ
@@ -87,10 +80,10 @@ planned_round nodes c p h k t low high =
     rw (ne_eqb p 0 (λ e. omega (arith, h.some)), ne_eqb k 0 (λ e. omega arith), le-ltb c k high)
     (ap (λ (x : ℕ). x % 2 ^ 16) (sym same ∙ ap (λ (w : ℕ). carried nodes (k - 1) w) (mod-add-div' t p)))
 
-tree_round : (nodes : List Node) (c : ℕ) (plan : Tree) → TreeOf nodes c plan → ComesRound plan
+tree_round : (nodes : List Node) (c : ℕ) (plan : LentTree) → TreeOf nodes c plan → ComesRound plan
 tree_round nodes c plan h k t low high =
     rw (h.nodes_kept, h.channels_kept) (planned_round nodes c plan.period h.planned k t low (omega (arith, high, h.channels_kept)))
 
-pub answer_round : (nodes : List Node) (c : ℕ) (answer : Result Tree Refusal) → PlanAnswer nodes c answer → PlanComesRound answer
+pub answer_round : (nodes : List Node) (c : ℕ) (answer : Result LentTree Refusal) → PlanAnswer nodes c answer → PlanComesRound answer
 answer_round nodes c (Ok plan) h = tree_round nodes c plan h
 answer_round nodes c (Err e) h = tt

@@ -6,12 +6,13 @@ use nodes::period::tree_period;
 use plans::refusal::Refusal;
 use records::kinds::{Inner, Node};
 use std::alloc::Global;
+use std::convert::AsSlice;
 use timetable::interface::Timetable;
 
-// A timetable by lent nodes: each of the channels begins at a node of its own, the first at node 0.
-#[derive(Clone, Copy)]
-pub struct Tree<'a> {
-    pub nodes: &'a [Node],
+// A timetable by nodes, lent or its own: each of the channels begins at a node of its own, the first at node 0.
+#[derive(Clone, Copy, Drop)]
+pub struct Tree<L> {
+    pub nodes: L,
     pub channels: u8,
     pub period: u32,
 }
@@ -47,7 +48,7 @@ fn child_step(nodes: &[Node], parent: Inner, turn: u32) -> u16
 }
 
 // The tree whose roots are the first nodes, as `Tree::plan` answers it.
-fn planned<'a>(heap: Global, nodes: &'a [Node], channels: u8) -> Result<Tree<'a>, Refusal>
+fn planned<'a>(heap: Global, nodes: &'a [Node], channels: u8) -> Result<Tree<&'a [Node]>, Refusal>
     ensures tree_or_refusal { PlanAnswer nodes.now channels result }
 {
     let period = tree_period(heap, nodes, channels)?;
@@ -58,9 +59,9 @@ fn planned<'a>(heap: Global, nodes: &'a [Node], channels: u8) -> Result<Tree<'a>
     })
 }
 
-impl<'a> Tree<'a> {
+impl<'a> Tree<&'a [Node]> {
     // The tree whose roots are the first nodes, one for each channel, with its period.
-    pub fn plan(heap: Global, nodes: &'a [Node], channels: u8) -> Result<Tree<'a>, Refusal>
+    pub fn plan(heap: Global, nodes: &'a [Node], channels: u8) -> Result<Tree<&'a [Node]>, Refusal>
         ensures tree_or_refusal { PlanAnswer nodes.now channels result }
         ensures hands_turns_on { HandsTurnsOn nodes.now (carried nodes.now) }
         ensures comes_round { PlanComesRound result }
@@ -69,10 +70,10 @@ impl<'a> Tree<'a> {
     }
 }
 
-impl Timetable for Tree<'_> {
-    ghost meaning = { λ x. tree x.nodes.now x.channels x.period };
+impl<L: AsSlice<Node>> Timetable for Tree<L> {
+    ghost meaning = { λ x. tree (L.AsSlice.items x.nodes) x.channels x.period };
 
-    ghost lawful = { λ x. tree_lawful x.nodes.now x.channels x.period };
+    ghost lawful = { λ x. tree_lawful (L.AsSlice.items x.nodes) x.channels x.period };
 
     fn channels(&self) -> u8 {
         self.channels
@@ -86,6 +87,10 @@ impl Timetable for Tree<'_> {
         if self.period == 0 || channel == 0 || channel > self.channels {
             return 0;
         }
-        node_step(self.nodes, channel as usize - 1, slot % self.period)
+        node_step(
+            self.nodes.as_slice(),
+            usize::from(channel) - 1,
+            slot % self.period,
+        )
     }
 }

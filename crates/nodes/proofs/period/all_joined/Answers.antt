@@ -6,17 +6,17 @@ use Rattle.nodes.proofs.period.all_joined.Goals as goal
 pub loop-cycle-init : goal.loop-cycle-init
 loop-cycle-init c = (lcm_all_none, omega arith, omega arith)
 
-pub returns-in_default : goal.returns-in_default
-returns-in_default c =
+pub returns-in_err-period : goal.returns-in_err-period
+returns-in_err-period c =
     let next =
     period_next c.args.cycles.now c.loop-cycle.cycle-index c.loop-cycle.period None (omega arith) c.requires.positive
-    c.in_default.ensures.joins_cycle c.loop-cycle.invariant in
-    record { least_common_multiple = within_none c.args.cycles.now _ c.requires.positive next }
+    c.in_err-period.ensures.joins_cycle c.loop-cycle.invariant in
+    record { least_common_multiple = rw c.from_residual.ensures (within_none c.args.cycles.now _ c.requires.positive next) }
 
 pub loop-cycle-preserved : goal.loop-cycle-preserved
 loop-cycle-preserved c =
-    period_next c.args.cycles.now c.loop-cycle.cycle-index c.loop-cycle.period (Some c.in-Some.next) (omega arith) c.requires.positive
-    c.in-Some.ensures.joins_cycle c.loop-cycle.invariant
+    period_next c.args.cycles.now c.loop-cycle.cycle-index c.loop-cycle.period (Some c.in_ok-period.period) (omega arith) c.requires.positive
+    c.in_ok-period.ensures.joins_cycle c.loop-cycle.invariant
 
 pub returns : goal.returns
 returns c =
