@@ -7,12 +7,6 @@ use Rattle.records.specs.declared.fault.Fault.TheVariants.{CutShort}
 use Rattle.format.specs.Items.{Item, kind, size, body, bytes, Stood}
 
 module _ {X : Type 0} (item : X → Item) (file : List ℕ) (a : ℕ) where
-  -- records of one kind
-  pub stood : (some : X) → (r : Result (Option (X × ℕ)) Fault) → Found (kind (item some)) (size (item some)) (λ x. body (item x)) file a r → ((x : X) → kind (item x) ≡ kind (item some)) → Stood item file a r
-  stood some (Ok (Some p)) f one = subst (λ k. Spans file a p.1 (k ∷ body (item p.0))) (sym (one p.0)) f
-  stood some (Ok None) f one = λ x o. f (subst (Opens file a) (one x) o)
-  stood some (Err e) f one = (f.0, (some, f.1))
-
   -- a record that is cut short, handed on by `?`
   pub stood_cut : (x : X) (r : Result (Option (X × ℕ)) Fault) (e : Fault) → IsErrAnd r (λ y. y ≡ e) → (e ≡ CutShort a) × Cuts file a (kind (item x)) (size (item x)) → Stood item file a r
   stood_cut x r e by f =

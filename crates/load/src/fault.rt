@@ -46,7 +46,9 @@ impl LoadFault {
     {
         match self {
             LoadFault::Reading(fault) => {
-                fault.number_and_byte().map(|(number, byte)| (number, byte, None))
+                fault
+                    .number_and_byte()
+                    .map(|(number, byte)| (number, byte, None))
             },
             LoadFault::Planning(refusal) => refusal.number().map(|lower| (45, 0, Some(lower))),
             LoadFault::Closing(byte, fault) => Some((45, *byte, Some(fault.number()))),

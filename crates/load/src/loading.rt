@@ -35,11 +35,7 @@ pub fn load(heap: Global, bytes: &[u8]) -> Result<Loaded, LoadFault>
         closures,
     } = read_plan(heap, bytes)?;
     let schedule = schedule_of(heap, film, parts)?;
-    if let Err((index, fault)) = judge_all(
-        closures.as_slice(),
-        film.channels,
-        schedule.period(),
-    ) {
+    if let Err((index, fault)) = judge_all(closures.as_slice(), film.channels, schedule.period()) {
         let byte = bytes.len() - 1 - CLOSURE_BYTES * (closures.len() - index);
         return Err(LoadFault::Closing(byte, fault));
     }

@@ -26,23 +26,23 @@ returns-in_err-schedule c =
           (planning c.in_ok-film.field-0 (refusals.told e) c.in_ok-film.ensures.answers c.in_err-schedule.ensures.plans_or_refuses);
     }
 
-pub overflow_sub-byte-in-Some-2 : goal.overflow_sub-byte-in-Some-2
-overflow_sub-byte-in-Some-2 c =
+pub overflow_sub-byte-in-Err-2 : goal.overflow_sub-byte-in-Err-2
+overflow_sub-byte-in-Err-2 c =
     let p = c.in_ok-film.field-0 in
-    let i = c.in-Some.index in
-    let there = c.in-Some.ensures.judges_in_order.there in
+    let i = c.in-Err.index in
+    let there = c.in-Err.ensures.judges_in_order.there in
     let within : i ≤ length (vec_items p.closures) = omega (arith, there, ap length c.as_slice.ensures.value) in
     omega (arith, file_long c.args.bytes.now p i c.in_ok-film.ensures.answers within, p.closures.ok.0)
 
-pub returns-in-Some : goal.returns-in-Some
-returns-in-Some c =
+pub returns-in-Err : goal.returns-in-Err
+returns-in-Err c =
     let file = c.args.bytes.now in
     let p = c.in_ok-film.field-0 in
     let s = c.in_ok-schedule.schedule in
-    let i = c.in-Some.index in
-    let f = c.in-Some.fault in
+    let i = c.in-Err.index in
+    let f = c.in-Err.fault in
     let reads = c.in_ok-film.ensures.answers in
-    let found = subst (λ l. FirstIdle p.film.channels c.period.result l i f) c.as_slice.ensures.value c.in-Some.ensures.judges_in_order in
+    let found = subst (λ l. FirstIdle p.film.channels c.period.result l i f) c.as_slice.ensures.value c.in-Err.ensures.judges_in_order in
     let idle = subst (λ q. FirstIdle p.film.channels q (vec_items p.closures) i f) c.period.ensures.answers_period found in
     let within : i ≤ length (vec_items p.closures) = omega (arith, idle.there) in
     let byte : _ ≡ _ = omega (arith, file_long file p i reads within, p.closures.ok.0) in
