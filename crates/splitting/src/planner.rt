@@ -1,4 +1,4 @@
-ghost use Rattle.std.specs.Prelude.{◌≡◌, ◌+◌, ◌*◌, ◌<◌, ◌≤◌, length, drop, Decides, All};
+ghost use Rattle.std.specs.Prelude.{◌≡◌, ◌+◌, ◌*◌, ◌<◌, ◌≤◌, length, Decides, All};
 ghost use Rattle.bag.specs.Bags.{held, room, SameMemory};
 ghost use Rattle.splitting_rule.specs.Answers.{Askable, AllZero, FillAnswer, SplittingAnswer, SplittingApart, SplittingListed, SplittingSound};
 ghost use Rattle.sequences.specs.Sequences.{Usable};
