@@ -4,7 +4,7 @@ ghost use Rattle.checker.specs.Judged.{Judged, verdict_of};
 
 use crate::range::{Film, begin};
 use crate::refusal::CheckRefusal;
-use crate::sweep::{lowest, sweep};
+use crate::sweep::{Swept, sweep};
 use scratch::Scratch;
 use timetable::interface::Timetable;
 
@@ -22,7 +22,12 @@ pub fn check<T: Timetable>(
     let film = Film { delay, pages };
     let end = begin(table, film, guard.cells)?;
     sweep(table, film, end, pages, guard.cells)?;
-    match lowest(guard.cells, film, end) {
+    let swept = Swept {
+        cells: guard.cells,
+        film,
+        end,
+    };
+    match swept.lowest() {
         Some(finding) => Err(CheckRefusal::Starves(finding)),
         None => Ok(()),
     }

@@ -71,30 +71,38 @@ pub(crate) fn sweep<T: Timetable>(
     outcome
 }
 
-// The finding of the page at a place, from 0, once the slots below `end` were asked: the first tune-in slot that starves of it.
-pub(crate) fn finding_at(scratch: &[u32], film: Film, place: u16, end: u32) -> Option<Finding>
-    requires two_a_page { 2 * film.pages ≤ length scratch.now }
-    requires waiting_small { (j : ℕ) → j < film.pages → slice_index scratch.now j < 2 ^ 29 }
-    requires of_film { place < film.pages }
-    ensures told { Tells (place + 1) (known film.delay film.pages end scratch.now place) result }
-{
-    let waiting = usize::from(place);
-    let found = usize::from(film.pages) + waiting;
-    let window = u32::from(film.delay) + u32::from(place);
-    let first = missed(scratch[waiting], scratch[found], window, end);
-    first.checked_sub(1).map(|slot| Finding {
-        page: place + 1,
-        slot,
-    })
+// What a sweep over the slots below `end` left in the scratch.
+#[derive(Clone, Copy)]
+pub(crate) struct Swept<'a> {
+    pub(crate) cells: &'a [u32],
+    pub(crate) film: Film,
+    pub(crate) end: u32,
+    ghost two_a_page: { 2 * film.pages ≤ length cells.now },
+    ghost waiting_small: { (j : ℕ) → j < film.pages → slice_index cells.now j < 2 ^ 29 },
 }
 
-// The finding of the lowest page that has one, once the slots below `end` were asked.
-pub(crate) fn lowest(scratch: &[u32], film: Film, end: u32) -> Option<Finding>
-    requires two_a_page { 2 * film.pages ≤ length scratch.now }
-    requires waiting_small { (j : ℕ) → j < film.pages → slice_index scratch.now j < 2 ^ 29 }
-    ensures lowest_or_none { MatchOption result
-        ((j : ℕ) → j < film.pages → known film.delay film.pages end scratch.now j ≡ 0)
-        (λ f. Lowest film.delay film.pages end scratch.now f.page f.slot) }
-{
-    (0..film.pages).find_map(|place| finding_at(scratch, film, place, end))
+impl Swept<'_> {
+    // The finding of the page at a place, from 0: the first tune-in slot that starves of it.
+    pub(crate) fn finding_at(&self, place: u16) -> Option<Finding>
+        requires of_film { place < self.now.film.pages }
+        ensures told { Tells (place + 1) (known self.now.film.delay self.now.film.pages self.now.end self.now.cells.now place) result }
+    {
+        let waiting = usize::from(place);
+        let found = usize::from(self.film.pages) + waiting;
+        let window = u32::from(self.film.delay) + u32::from(place);
+        let first = missed(self.cells[waiting], self.cells[found], window, self.end);
+        first.checked_sub(1).map(|slot| Finding {
+            page: place + 1,
+            slot,
+        })
+    }
+
+    // The finding of the lowest page that has one.
+    pub(crate) fn lowest(&self) -> Option<Finding>
+        ensures lowest_or_none { MatchOption result
+            ((j : ℕ) → j < self.now.film.pages → known self.now.film.delay self.now.film.pages self.now.end self.now.cells.now j ≡ 0)
+            (λ f. Lowest self.now.film.delay self.now.film.pages self.now.end self.now.cells.now f.page f.slot) }
+    {
+        (0..self.film.pages).find_map(|place| self.finding_at(place))
+    }
 }
