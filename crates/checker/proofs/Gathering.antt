@@ -1,50 +1,43 @@
 -- The findings that are gathered from the numbers of the pages are those of the timetable.
-use Rattle.std.proofs.Common.{◌≡◌, ℕ, zero, suc, ◌+◌, ◌-◌, ◌<◌, ◌≤◌, List, [], ◌∷◌, ◌++◌, length, get_or, Ok, Err, All, Contains, Result, sym, refl, ap, ◌∙◌, subst, ⊎_elim, append-nil, add-one, arith, length-append}
+use Rattle.std.proofs.Common.{◌≡◌, ℕ, zero, suc, ◌+◌, ◌-◌, ◌<◌, ◌≤◌, List, [], ◌∷◌, ◌++◌, length, All, Contains, sym, refl, ap, ◌∙◌, subst, ⊎_elim, append-nil, add-one, arith, length-append}
 use Rattle.std.specs.List.Sorted.{IsPermutation}
 use Rattle.std.proofs.lemmas.List.Elements.{All-nil, All-head, All-tail, All-push, All-weaker, Contains-push, Contains-append_left}
-use Rattle.std.proofs.lemmas.List.Sorted.{IsPermutation-cons, IsPermutation-sym, IsPermutation-trans, IsPermutation-to_front, length_permutation}
+use Rattle.std.proofs.lemmas.List.Sorted.{IsPermutation-cons, IsPermutation-trans, IsPermutation-to_front, length_permutation}
 use Rattle.std.proofs.lemmas.Bool.{cases_lt, cases_order}
 use Rattle.timetable.specs.Meaning.{Meaning, Lawful}
 use Rattle.timetable.specs.Windows.{FirstSlot}
-use Rattle.bag.specs.Bags.{held, AfterPut}
-use Rattle.bag.specs.declared.bag.Bag.{Bag}
-use Rattle.bag.specs.declared.ranked.Ranked.{Ghosts}
-use Rattle.bag.specs.declared.bag.Full.{Full}
 use Rattle.bag.specs.declared.finding.Finding.{Finding}
 use Rattle.checker.specs.Findings.{Ascending, Findings}
-use Rattle.checker.specs.Sweep.{missing, Heard, sweep_end, finding, gathered, Noted}
+use Rattle.checker.specs.Sweep.{known, Heard, sweep_end, finding, gathered}
 use Rattle.checker.proofs.Ending.{never_starves, starves_first}
 
-finding_some : (p v : ℕ) → 0 < v → finding p v ≡ record { page = p; slot = v - 1 } ∷ []
-finding_some p zero h = absurd (omega arith)
-finding_some p (suc v) h = let e : v ≡ suc v - 1 = omega arith in ap (λ x. record { page = p; slot = x } ∷ []) e
-
--- a finding that was put
-pub noted_put : {o : Ghosts Finding} (page found : ℕ) (a b : Bag Finding o) (r : Result (Unit {0}) Full) → 0 < found → AfterPut (record { page = page; slot = found - 1 }) a b r → Noted page found a b r
-noted_put page found a b (Ok _) some h =
-    subst (λ fs. IsPermutation (held a ++ fs) (held b)) (sym (finding_some page found some))
-    (IsPermutation-trans _ _ _ (IsPermutation-to_front (held a) _) h.one_more)
-noted_put page found a b (Err e) some h = (some, h.1, h.2)
-
--- the same at the end of both
-push_both : (xs ys : List Finding) (p v : ℕ) → IsPermutation xs ys → IsPermutation (xs ++ finding p v) (ys ++ finding p v)
-push_both xs ys p zero h = simp append-nil h
-push_both xs ys p (suc v) h =
-    IsPermutation-trans _ _ _ (IsPermutation-to_front xs _) (IsPermutation-trans _ _ _ (IsPermutation-cons _ xs ys h) (IsPermutation-sym _ _ (IsPermutation-to_front ys _)))
+-- what is told of a page that starves
+told_some : (p v : ℕ) (f : Finding) → (f.page ≡ p) × (v ≡ f.slot + 1) → finding p v ≡ f ∷ []
+told_some p v f h = ap (λ x. finding p x) (h.1 ∙ add-one f.slot) ∙ ap (λ q. record { page = q; slot = f.slot } ∷ []) (sym h.0)
 
 module _ (m n end : ℕ) (xs : List ℕ) where
   -- one more than the first starving slot of the page of place j, at the end
   abbrev miss : ℕ → ℕ
-  miss j = missing (get_or xs j 0) (get_or xs (n + j) 0) (m + j) end
+  miss j = known m n end xs j
 
-  gathered_next : (j v : ℕ) → v ≡ miss j → gathered m n end xs (j + 1) ≡ gathered m n end xs j ++ finding (j + 1) v
-  gathered_next j v e = ap (λ i. gathered m n end xs i) (add-one j) ∙ ap (λ x. gathered m n end xs j ++ finding (j + 1) x) (sym e)
+  gathered_next : (j : ℕ) → gathered m n end xs (j + 1) ≡ gathered m n end xs j ++ finding (j + 1) (miss j)
+  gathered_next j = ap (λ i. gathered m n end xs i) (add-one j)
 
-  -- one page more
-  pub gathered_more : {o : Ghosts Finding} (j v : ℕ) (a b : Bag Finding o) → v ≡ miss j → IsPermutation (gathered m n end xs j) (held a) → Noted (j + 1) v a b (Ok tt) → IsPermutation (gathered m n end xs (j + 1)) (held b)
-  gathered_more j v a b e h more =
-      subst (λ fs. IsPermutation fs (held b)) (sym (gathered_next j v e))
-      (IsPermutation-trans _ _ _ (push_both (gathered m n end xs j) (held a) (j + 1) v h) more)
+  -- one page more, which does not starve
+  pub gathered_none : (j : ℕ) (ys : List Finding) → miss j ≡ 0 → IsPermutation (gathered m n end xs j) ys → IsPermutation (gathered m n end xs (j + 1)) ys
+  gathered_none j ys z h =
+      let same : gathered m n end xs (j + 1) ≡ gathered m n end xs j = gathered_next j ∙ ap (λ v. gathered m n end xs j ++ finding (j + 1) v) z ∙ append-nil _ in
+      subst (λ fs. IsPermutation fs ys) (sym same) h
+
+  module _ (j : ℕ) (f : Finding) (told : (f.page ≡ j + 1) × (miss j ≡ f.slot + 1)) where
+    gathered_last : gathered m n end xs (j + 1) ≡ gathered m n end xs j ++ f ∷ []
+    gathered_last = gathered_next j ∙ ap (λ fs. gathered m n end xs j ++ fs) (told_some (j + 1) (miss j) f told)
+
+    -- one page more, whose finding was put
+    pub gathered_put : (ys zs : List Finding) → IsPermutation (gathered m n end xs j) ys → IsPermutation (f ∷ ys) zs → IsPermutation (gathered m n end xs (j + 1)) zs
+    gathered_put ys zs h put =
+        subst (λ fs. IsPermutation fs zs) (sym gathered_last)
+        (IsPermutation-trans _ _ _ (IsPermutation-to_front (gathered m n end xs j) f) (IsPermutation-trans _ _ _ (IsPermutation-cons f _ ys h) put))
 
   grows : (j d : ℕ) → length (gathered m n end xs j) ≤ length (gathered m n end xs (j + d))
   grows j zero = let e : j ≡ j + zero = omega arith in subst (λ x. length (gathered m n end xs j) ≤ length (gathered m n end xs x)) e (omega arith)
@@ -54,11 +47,11 @@ module _ (m n end : ℕ) (xs : List ℕ) where
       subst (λ x. length (gathered m n end xs j) ≤ length (gathered m n end xs x)) e (simp length-append (omega arith))
 
   -- where one more is to come and the bag has no place for it, there are more findings than places
-  pub gathered_full : {o : Ghosts Finding} (j v r : ℕ) (a : Bag Finding o) → v ≡ miss j → 0 < v → j < n → IsPermutation (gathered m n end xs j) (held a) → length (held a) ≡ r → r < length (gathered m n end xs n)
-  gathered_full j v r a e some lt h full =
+  pub gathered_full : (j r : ℕ) (f : Finding) (ys : List Finding) → (f.page ≡ j + 1) × (miss j ≡ f.slot + 1) → j < n → IsPermutation (gathered m n end xs j) ys → length ys ≡ r → r < length (gathered m n end xs n)
+  gathered_full j r f ys told lt h full =
       let top : (j + 1) + (n - (j + 1)) ≡ n = omega arith in
       let grown : length (gathered m n end xs (j + 1)) ≤ length (gathered m n end xs n) = subst (λ x. length (gathered m n end xs (j + 1)) ≤ length (gathered m n end xs x)) top (grows (j + 1) (n - (j + 1))) in
-      let more : length (gathered m n end xs (j + 1)) ≡ length (gathered m n end xs j) + 1 = ap length (gathered_next j v e ∙ ap (λ fs. gathered m n end xs j ++ fs) (finding_some (j + 1) v some)) ∙ length-append _ _ in
+      let more : length (gathered m n end xs (j + 1)) ≡ length (gathered m n end xs j) + 1 = ap length (gathered_last j f told) ∙ length-append _ _ in
       let same = length_permutation _ _ h in
       omega arith
 

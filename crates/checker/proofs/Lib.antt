@@ -1,3 +1,4 @@
+mod Beginning
 pub mod Ending
 mod Gathering
 pub mod Sorting

@@ -1,3 +1,5 @@
 pub mod Findings
 pub mod Judged
+pub mod Ready
 pub mod Sweep
+pub mod Unready

@@ -1,7 +1,7 @@
 -- What the sweep keeps: two numbers for each page, once the slots below t, and in slot t the channels below k, were asked.
-use Rattle.std.specs.Prelude.{◌≡◌, ℕ, zero, suc, ◌+◌, ◌-◌, ◌<◌, ◌≤◌, cond, ◌&&◌, List, [], ◌∷◌, ◌++◌, length, Ok, Err, Result, MatchResult, ◌==◌, ◌≢◌, nat_le, slice_index, slice_set}
+use Rattle.std.specs.Prelude.{◌≡◌, ℕ, zero, suc, ◌+◌, ◌-◌, ◌<◌, ◌≤◌, cond, ◌&&◌, List, [], ◌∷◌, ◌++◌, length, Option, MatchOption, Result, MatchResult, ◌==◌, ◌≢◌, nat_le, slice_index, slice_set}
 use Rattle.std.specs.List.Sorted.{IsPermutation}
-use Rattle.bag.specs.Bags.{held, room, Same}
+use Rattle.bag.specs.Bags.{held, room}
 use Rattle.bag.specs.declared.bag.Bag.{Bag}
 use Rattle.bag.specs.declared.ranked.Ranked.{Ghosts}
 use Rattle.bag.specs.declared.bag.Full.{Full}
@@ -44,11 +44,19 @@ pub record Clean (X : Meaning) (n t k : ℕ) : Type 0 where
 abbrev pub sweep_end : Meaning → ℕ → ℕ → ℕ
 sweep_end X m n = X.period + m + n - 2
 
+-- one more than the first starving slot known of the page of place j, once the slots below `end` were asked, or 0
+abbrev pub known : ℕ → ℕ → ℕ → List ℕ → ℕ → ℕ
+known m n end xs j = missing (slice_index xs j) (slice_index xs (n + j)) (m + j) end
+
+-- what is told of page p by such a number: a finding, or none where it is 0
+abbrev pub Tells : ℕ → ℕ → Option Finding → Type 0
+Tells p v o = MatchOption o (v ≡ 0) (λ f. (f.page ≡ p) × (v ≡ f.slot + 1))
+
 -- page i is the lowest of which a starving slot is known at the end, and t is that slot
 pub record Lowest (m n end : ℕ) (xs : List ℕ) (i t : ℕ) : Type 0 where
   pub page : (1 ≤ i) × (i ≤ n)
-  pub slot : missing (slice_index xs (i - 1)) (slice_index xs (n + (i - 1))) (m + (i - 1)) end ≡ t + 1
-  pub others : (j : ℕ) → j < i - 1 → missing (slice_index xs j) (slice_index xs (n + j)) (m + j) end ≡ 0
+  pub slot : known m n end xs (i - 1) ≡ t + 1
+  pub others : (j : ℕ) → j < i - 1 → known m n end xs j ≡ 0
 
 -- a finding, where the number is one more than its slot, and none where it is 0
 abbrev pub finding : ℕ → ℕ → List Finding
@@ -58,12 +66,7 @@ finding page (suc slot) = record { page = page; slot = slot } ∷ []
 -- the findings among the first j pages, by their numbers at the end
 abbrev pub gathered : ℕ → ℕ → ℕ → List ℕ → ℕ → List Finding
 gathered m n end xs zero = []
-gathered m n end xs (suc j) = gathered m n end xs j ++ finding (j + 1) (missing (slice_index xs j) (slice_index xs (n + j)) (m + j) end)
-
--- a bag after one more finding, or a full one as it was
-abbrev pub Noted : {o : Ghosts Finding} → ℕ → ℕ → Bag Finding o → Bag Finding o → Result (Unit {0}) Full → Type 0
-Noted page found a b (Ok _) = IsPermutation (held a ++ finding page found) (held b)
-Noted page found a b (Err _) = (0 < found) × (length (held a) ≡ room a) × Same a b
+gathered m n end xs (suc j) = gathered m n end xs j ++ finding (j + 1) (known m n end xs j)
 
 -- a bag that was empty after all findings, or one that is too small for them
 abbrev pub Filled : {o : Ghosts Finding} → List Finding → Bag Finding o → Result (Unit {0}) Full → Type 0

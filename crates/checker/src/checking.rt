@@ -2,10 +2,10 @@
 ghost use Rattle.std.specs.Prelude.{◌≡◌, length, replicate};
 ghost use Rattle.checker.specs.Judged.{Judged, verdict_of};
 
-use crate::range::in_range;
+use crate::range::{Film, begin};
 use crate::refusal::CheckRefusal;
-use crate::sweep::{lowest, sweep};
-use scratch::{Scratch, zero};
+use crate::sweep::{Swept, sweep};
+use scratch::Scratch;
 use timetable::interface::Timetable;
 
 // Whether no entry of the timetable lies beyond the film and no tune-in starves, in whatever slot; or the first reason why not.
@@ -19,22 +19,15 @@ pub fn check<T: Timetable>(
     ensures scratch_zeroed { scratch.new ≡ replicate (length scratch.old) 0 }
 {
     let guard = Scratch { cells: scratch };
-    if !in_range(table, delay, pages) {
-        return Err(CheckRefusal::OutOfRange);
-    }
-    if guard.cells.len() < 2 * pages as usize {
-        return Err(CheckRefusal::ShortScratch);
-    }
-    zero(guard.cells);
-    if let Err(stray) = sweep(table, delay, pages, guard.cells) {
-        return Err(CheckRefusal::Strays(stray));
-    }
-    match lowest(
-        guard.cells,
-        delay,
-        pages,
-        table.period() + delay as u32 + pages as u32 - 2,
-    ) {
+    let film = Film { delay, pages };
+    let end = begin(table, film, guard.cells)?;
+    sweep(table, film, end, pages, guard.cells)?;
+    let swept = Swept {
+        cells: guard.cells,
+        film,
+        end,
+    };
+    match swept.lowest() {
         Some(finding) => Err(CheckRefusal::Starves(finding)),
         None => Ok(()),
     }

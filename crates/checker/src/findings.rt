@@ -1,54 +1,27 @@
 // The findings of a timetable: which pages starve, and from which tune-in slot on.
-ghost use Rattle.std.specs.Prelude.{◌≡◌, ℕ, ◌*◌, ◌^◌, ◌<◌, ◌≤◌, length, replicate, slice_index};
+ghost use Rattle.std.specs.Prelude.{◌≡◌, length, replicate};
 ghost use Rattle.bag.specs.Bags.{Emptied, SameMemory};
 ghost use Rattle.checker.specs.Findings.{Finds};
-ghost use Rattle.checker.specs.Sweep.{Noted, Filled, gathered};
+ghost use Rattle.checker.specs.Sweep.{Filled, gathered};
 
-use crate::range::in_range;
+use crate::range::{Film, begin};
 use crate::refusal::FindingsRefusal;
-use crate::sweep::{missed, sweep_all};
+use crate::sweep::{Swept, sweep};
 use bag::bag::{Bag, Full};
 use bag::finding::Finding;
-use scratch::{Scratch, zero};
+use scratch::Scratch;
 use timetable::interface::Timetable;
 
-// Puts a page into the bag if `found`, one more than its first starving slot, is not 0.
-fn note(bag: &mut Bag<Finding>, page: u16, found: u32) -> Result<(), Full>
-    ensures noted_or_full { Noted page found bag.old bag.new result }
-    ensures same_memory { SameMemory bag.old bag.new }
-{
-    if found == 0 {
-        return Ok(());
-    }
-    bag.put(Finding {
-        page,
-        slot: found - 1,
-    })
-}
-
-// Puts each page that starves into the bag, once the slots below `end` were asked.
-fn gather(
-    scratch: &[u32],
-    delay: u16,
-    pages: u16,
-    end: u32,
-    bag: &mut Bag<Finding>,
-) -> Result<(), Full>
-    requires two_a_page { 2 * pages ≤ length scratch.now }
-    requires waiting_small { (j : ℕ) → j < pages → slice_index scratch.now j < 2 ^ 29 }
+// Puts the finding of each page that starves into the bag.
+fn gather(swept: &Swept, bag: &mut Bag<Finding>) -> Result<(), Full>
     requires nothing_held { Emptied bag.old }
-    ensures all_or_full { Filled (gathered delay pages end scratch.now pages) bag.new result }
+    ensures all_or_full { Filled (gathered swept.now.film.delay swept.now.film.pages swept.now.end swept.now.cells.now swept.now.film.pages) bag.new result }
     ensures same_memory { SameMemory bag.old bag.new }
 {
-    for place in 0..pages {
-        let index = place as usize;
-        let found = missed(
-            scratch[index],
-            scratch[pages as usize + index],
-            delay as u32 + place as u32,
-            end,
-        );
-        note(bag, place + 1, found)?;
+    for place in 0..swept.film.pages {
+        if let Some(finding) = swept.finding_at(place) {
+            bag.put(finding)?;
+        }
     }
     Ok(())
 }
@@ -67,16 +40,16 @@ pub fn findings<T: Timetable>(
 {
     let guard = Scratch { cells: scratch };
     bag.clear();
-    if !in_range(table, delay, pages) {
-        return Err(FindingsRefusal::OutOfRange);
-    }
-    if guard.cells.len() < 2 * pages as usize {
-        return Err(FindingsRefusal::ShortScratch);
-    }
-    zero(guard.cells);
-    sweep_all(table, delay, pages, guard.cells);
-    let end = table.period() + delay as u32 + pages as u32 - 2;
-    match gather(guard.cells, delay, pages, end, bag) {
+    let film = Film { delay, pages };
+    let end = begin(table, film, guard.cells)?;
+    // No page is above the highest number, so this sweep goes over every entry.
+    let _ = sweep(table, film, end, u16::MAX, guard.cells);
+    let swept = Swept {
+        cells: guard.cells,
+        film,
+        end,
+    };
+    match gather(&swept, bag) {
         Ok(()) => Ok(bag.len()),
         Err(Full) => {
             bag.clear();

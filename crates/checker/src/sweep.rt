@@ -1,15 +1,18 @@
 // One sweep over the slots of a period and of the windows that begin in it, which asks each entry once. The scratch has two
 // numbers for each page: the tune-in slot that still waits for it, and one more than the first starving slot found, or 0.
-ghost use Rattle.std.specs.Prelude.{◌≡◌, ℕ, ◌+◌, ◌-◌, ◌*◌, ◌^◌, ◌<◌, ◌≤◌, length, MatchOption, MatchResult, slice_index};
-ghost use Rattle.timetable.specs.Windows.{InRange, FirstStray};
-ghost use Rattle.checker.specs.Sweep.{missing, heard, Heard, Clean, sweep_end, Lowest};
+ghost use Rattle.std.specs.Prelude.{◌≡◌, ℕ, ◌+◌, ◌*◌, ◌^◌, ◌<◌, ◌≤◌, length, MatchOption, MatchResult, slice_index};
+ghost use Rattle.timetable.specs.Windows.{FirstStray};
+ghost use Rattle.checker.specs.Ready.{Ready};
+ghost use Rattle.checker.specs.Sweep.{missing, heard, known, Heard, Clean, Tells, Lowest};
 
+use crate::range::Film;
 use crate::refusal::Stray;
 use bag::finding::Finding;
 use timetable::interface::Timetable;
 
+// Kept so: the answer stands in a cell of the lent scratch, which holds numbers alone; `finding_at` makes an Option of it.
 // One more than the first starving tune-in slot known of a page, once the slots below `by` were asked: that found before, or the slot that waits if its window is over.
-pub(crate) fn missed(waiting: u32, found: u32, window: u32, by: u32) -> u32
+fn missed(waiting: u32, found: u32, window: u32, by: u32) -> u32
     requires waiting_small { waiting < 2 ^ 30 }
     requires window_small { window < 2 ^ 30 }
     ensures first_missed { result ≡ missing waiting found window by }
@@ -22,41 +25,39 @@ pub(crate) fn missed(waiting: u32, found: u32, window: u32, by: u32) -> u32
 }
 
 // One entry of the sweep: `page` is sent in `slot`. A number that is no page of the film changes nothing.
-fn settle(scratch: &mut [u32], delay: u16, pages: u16, page: u16, slot: u32)
+fn settle(scratch: &mut [u32], film: Film, page: u16, slot: u32)
     requires slot_small { slot < 2 ^ 29 }
-    requires two_a_page { 2 * pages ≤ length scratch.old }
-    requires not_ahead { (j : ℕ) → j < pages → slice_index scratch.old j ≤ slot + 1 }
-    ensures page_heard { scratch.new ≡ heard delay pages page slot scratch.old }
+    requires two_a_page { 2 * film.pages ≤ length scratch.old }
+    requires not_ahead { (j : ℕ) → j < film.pages → slice_index scratch.old j ≤ slot + 1 }
+    ensures page_heard { scratch.new ≡ heard film.delay film.pages page slot scratch.old }
 {
-    if page >= 1 && page <= pages {
-        let place = page as usize - 1;
-        let waiting = scratch[place];
-        let found = scratch[pages as usize + place];
-        scratch[pages as usize + place] = missed(waiting, found, delay as u32 + place as u32, slot);
-        scratch[place] = slot + 1;
+    if (1..=film.pages).contains(&page) {
+        let waiting = usize::from(page) - 1;
+        let found = usize::from(film.pages) + waiting;
+        let window = u32::from(film.delay) + u32::from(page) - 1;
+        scratch[found] = missed(scratch[waiting], scratch[found], window, slot);
+        scratch[waiting] = slot + 1;
     }
 }
 
-// Sweeps over all entries, or to the first stray one.
+// Sweeps over the entries of the slots below `end`, or to the first that carries a number above `highest`.
 pub(crate) fn sweep<T: Timetable>(
     table: &T,
-    delay: u16,
-    pages: u16,
+    film: Film,
+    end: u32,
+    highest: u16,
     scratch: &mut [u32],
 ) -> Result<(), Stray>
-    requires in_range { InRange (T.meaning table.now) delay pages }
-    requires two_a_page { 2 * pages ≤ length scratch.old }
-    requires blank { (j : ℕ) → j < 2 * pages → slice_index scratch.old j ≡ 0 }
+    requires ready { Ready (T.meaning table.now) film.delay film.pages end scratch.old }
     ensures clean_or_stray { MatchResult result
-        (λ _. Clean (T.meaning table.now) pages (sweep_end (T.meaning table.now) delay pages) 1
-        × Heard (T.meaning table.now) delay pages (sweep_end (T.meaning table.now) delay pages) 1 scratch.new)
-        (λ e. FirstStray (T.meaning table.now) pages e.slot e.channel e.page) }
+        (λ _. Clean (T.meaning table.now) highest end 1 × Heard (T.meaning table.now) film.delay film.pages end 1 scratch.new)
+        (λ e. FirstStray (T.meaning table.now) highest e.slot e.channel e.page) }
 {
     let mut outcome = Ok(());
-    'sweep: for slot in 0..table.period() + delay as u32 + pages as u32 - 2 {
-        for channel in 1..table.channels() + 1 {
+    'sweep: for slot in 0..end {
+        for channel in 1..=table.channels() {
             let page = table.page_at(channel, slot);
-            if page > pages {
+            if page > highest {
                 outcome = Err(Stray {
                     slot,
                     channel,
@@ -64,48 +65,44 @@ pub(crate) fn sweep<T: Timetable>(
                 });
                 break 'sweep;
             }
-            settle(scratch, delay, pages, page, slot);
+            settle(scratch, film, page, slot);
         }
     }
     outcome
 }
 
-// Sweeps over all entries, over stray ones too.
-pub(crate) fn sweep_all<T: Timetable>(table: &T, delay: u16, pages: u16, scratch: &mut [u32])
-    requires in_range { InRange (T.meaning table.now) delay pages }
-    requires two_a_page { 2 * pages ≤ length scratch.old }
-    requires blank { (j : ℕ) → j < 2 * pages → slice_index scratch.old j ≡ 0 }
-    ensures all_heard { Heard (T.meaning table.now) delay pages (sweep_end (T.meaning table.now) delay pages) 1 scratch.new }
-{
-    for slot in 0..table.period() + delay as u32 + pages as u32 - 2 {
-        for channel in 1..table.channels() + 1 {
-            settle(scratch, delay, pages, table.page_at(channel, slot), slot);
-        }
-    }
+// What a sweep over the slots below `end` left in the scratch.
+#[derive(Clone, Copy)]
+pub(crate) struct Swept<'a> {
+    pub(crate) cells: &'a [u32],
+    pub(crate) film: Film,
+    pub(crate) end: u32,
+    ghost two_a_page: { 2 * film.pages ≤ length cells.now },
+    ghost waiting_small: { (j : ℕ) → j < film.pages → slice_index cells.now j < 2 ^ 29 },
 }
 
-// The lowest page that a tune-in starves of, with the first such slot, once the slots below `end` were asked.
-pub(crate) fn lowest(scratch: &[u32], delay: u16, pages: u16, end: u32) -> Option<Finding>
-    requires two_a_page { 2 * pages ≤ length scratch.now }
-    requires waiting_small { (j : ℕ) → j < pages → slice_index scratch.now j < 2 ^ 29 }
-    ensures lowest_or_none { MatchOption result
-        ((j : ℕ) → j < pages → missing (slice_index scratch.now j) (slice_index scratch.now (pages + j)) (delay + j) end ≡ 0)
-        (λ f. Lowest delay pages end scratch.now f.page f.slot) }
-{
-    for place in 0..pages {
-        let index = place as usize;
-        let found = missed(
-            scratch[index],
-            scratch[pages as usize + index],
-            delay as u32 + place as u32,
-            end,
-        );
-        if found > 0 {
-            return Some(Finding {
-                page: place + 1,
-                slot: found - 1,
-            });
-        }
+impl Swept<'_> {
+    // The finding of the page at a place, from 0: the first tune-in slot that starves of it.
+    pub(crate) fn finding_at(&self, place: u16) -> Option<Finding>
+        requires of_film { place < self.now.film.pages }
+        ensures told { Tells (place + 1) (known self.now.film.delay self.now.film.pages self.now.end self.now.cells.now place) result }
+    {
+        let waiting = usize::from(place);
+        let found = usize::from(self.film.pages) + waiting;
+        let window = u32::from(self.film.delay) + u32::from(place);
+        let first = missed(self.cells[waiting], self.cells[found], window, self.end);
+        first.checked_sub(1).map(|slot| Finding {
+            page: place + 1,
+            slot,
+        })
     }
-    None
+
+    // The finding of the lowest page that has one.
+    pub(crate) fn lowest(&self) -> Option<Finding>
+        ensures lowest_or_none { MatchOption result
+            ((j : ℕ) → j < self.now.film.pages → known self.now.film.delay self.now.film.pages self.now.end self.now.cells.now j ≡ 0)
+            (λ f. Lowest self.now.film.delay self.now.film.pages self.now.end self.now.cells.now f.page f.slot) }
+    {
+        (0..self.film.pages).find_map(|place| self.finding_at(place))
+    }
 }

@@ -1,4 +1,4 @@
-ghost use Rattle.std.specs.Prelude.{◌≡◌, ◌+◌, ◌*◌, ◌<◌, ◌≤◌, length, drop, Decides, All};
+ghost use Rattle.std.specs.Prelude.{◌≡◌, ◌+◌, ◌*◌, ◌<◌, ◌≤◌, length, Decides, All};
 ghost use Rattle.bag.specs.Bags.{held, room, SameMemory};
 ghost use Rattle.splitting_rule.specs.Answers.{Askable, AllZero, FillAnswer, SplittingAnswer, SplittingApart, SplittingListed, SplittingSound};
 ghost use Rattle.sequences.specs.Sequences.{Usable};
@@ -16,9 +16,9 @@ fn put_channels(bag: &mut Bag<FreeSequence>, channels: u8) -> Result<(), Full>
     ensures same_memory { SameMemory bag.old bag.new }
 {
     bag.clear();
-    for k in 0..channels {
+    for channel in 1..=channels {
         bag.put(FreeSequence {
-            channel: k + 1,
+            channel,
             start: 0,
             period: 1,
         })?;
@@ -44,44 +44,35 @@ fn put_rest(bag: &mut Bag<FreeSequence>, sequence: FreeSequence, parts: u32) -> 
 }
 
 // The row of the next page, after so many pages: the first free sequence is cut, and the rest of it stays free.
-fn place_page(bag: &mut Bag<FreeSequence>, placed: u16, delay: u16) -> Result<Row, Refusal>
+fn place_page(bag: &mut Bag<FreeSequence>, placed: usize, delay: u16) -> Result<Row, Refusal>
     requires small { delay + placed < 4096 }
     requires all_usable { All (Usable (delay + placed)) (held bag.old) }
     ensures row_or_refusal { AfterPage placed (delay + placed) bag.old bag.new result }
     ensures same_memory { SameMemory bag.old bag.new }
 {
-    let window = u32::from(delay + placed);
-    let Some(sequence) = bag.take_first(window) else {
-        return Err(Refusal::NoFreeSequence(usize::from(placed)));
-    };
+    let window = u32::from(delay) + placed as u32;
+    let sequence = bag
+        .take_first(window)
+        .ok_or(Refusal::NoFreeSequence(placed))?;
     let parts = window / sequence.period;
-    let Ok(()) = put_rest(bag, sequence, parts) else {
-        return Err(Refusal::NoRoom);
-    };
+    put_rest(bag, sequence, parts).map_err(|_full| Refusal::NoRoom)?;
     Ok(Row {
-        page: placed + 1,
+        page: placed as u16 + 1,
         channel: sequence.channel,
         start: sequence.start,
         period: parts * sequence.period,
     })
 }
 
-// The rows of all pages, from the sequences that are free.
-fn place_pages(
-    bag: &mut Bag<FreeSequence>,
-    rows: &mut [Row],
-    delay: u16,
-    pages: u16,
-) -> Result<(), Refusal>
-    requires small { (delay ≤ 1024) × (pages ≤ 1024) }
-    requires enough_rows { pages ≤ length rows.old }
+// A row for each page, from the sequences that are free.
+fn place_pages(bag: &mut Bag<FreeSequence>, rows: &mut [Row], delay: u16) -> Result<(), Refusal>
+    requires small { (delay ≤ 1024) × (length rows.old ≤ 1024) }
     requires all_usable { All (Usable delay) (held bag.old) }
-    ensures rows_or_refusal { AfterPages delay pages bag.old bag.new rows.new result }
-    ensures others_stay { drop pages rows.new ≡ drop pages rows.old }
+    ensures rows_or_refusal { AfterPages delay (length rows.old) bag.old bag.new rows.new result }
     ensures same_memory { SameMemory bag.old bag.new }
 {
-    for i in 0..pages {
-        rows[usize::from(i)] = place_page(bag, i, delay)?;
+    for (placed, row) in rows.iter_mut().enumerate() {
+        *row = place_page(bag, placed, delay)?;
     }
     Ok(())
 }
@@ -102,10 +93,8 @@ fn fill(
     if rows.len() < count {
         return Err(Refusal::NoRoom);
     }
-    let Ok(()) = put_channels(bag, channels) else {
-        return Err(Refusal::NoRoom);
-    };
-    place_pages(bag, rows, delay, pages)?;
+    put_channels(bag, channels).map_err(|_full| Refusal::NoRoom)?;
+    place_pages(bag, &mut rows[..count], delay)?;
     rows_period(&rows[..count])
 }
 
@@ -113,22 +102,19 @@ fn fill(
 fn clear_rows(rows: &mut [Row])
     ensures all_zero { AllZero rows.new }
 {
-    let zero = Row {
+    rows.fill(Row {
         page: 0,
         channel: 0,
         start: 0,
         period: 0,
-    };
-    for row in rows.iter_mut() {
-        *row = zero;
-    }
+    });
 }
 
 // Whether the numbers are those of a film that can be planned.
 fn in_range(delay: u16, channels: u8, pages: u16) -> bool
     ensures decides { Decides result (Askable delay channels pages) }
 {
-    1 <= delay && delay <= 1024 && 1 <= channels && channels <= 8 && 1 <= pages && pages <= 1024
+    (1..=1024).contains(&delay) && (1..=8).contains(&channels) && (1..=1024).contains(&pages)
 }
 
 // Plans a film of 1 to 1,024 pages for a delay of 1 to 1,024 slots on 1 to 8 channels. The first rows, one for each page, are

@@ -1,5 +1,5 @@
 -- The pieces of a sequence, put into a bag one by one.
-use Rattle.std.proofs.Common.{◌≡◌, ℕ, zero, suc, ◌+◌, ◌-◌, ◌*◌, ◌<◌, ◌≤◌, List, ◌∷◌, ◌++◌, length, sym, refl, ap, subst, mul-le-mul_right, add-mul, one-mul, add-one, arith, length-append}
+use Rattle.std.proofs.Common.{◌≡◌, ℕ, zero, suc, ◌+◌, ◌-◌, ◌*◌, ◌<◌, ◌≤◌, List, ◌∷◌, ◌++◌, length, sym, refl, ap, subst, mul-le-mul_right, add-mul, one-mul, arith, length-append}
 use Rattle.std.specs.List.Sorted.{IsPermutation}
 use Rattle.std.proofs.lemmas.List.Sorted.{IsPermutation-cons, IsPermutation-trans, length_permutation}
 use Rattle.sequences.specs.Sequences.{piece, pieces, whole, whole_channels}
@@ -30,10 +30,11 @@ too_many s parts j xs ys most low high before full =
     omega (arith, length_permutation _ _ before, length-append (pieces s parts (j - 1)) xs, length_pieces s parts (j - 1), length-append (pieces s parts (parts - 1)) xs, length_pieces s parts (parts - 1))
 
 -- one channel more
-pub channels_more : (k : ℕ) (ys zs : List FreeSequence) → IsPermutation (whole_channels k) ys → IsPermutation (whole (k + 1) ∷ ys) zs → IsPermutation (whole_channels (k + 1)) zs
-channels_more k ys zs before put =
-    subst (λ (n : ℕ). IsPermutation (whole_channels n) zs) (sym (add-one k))
-    (IsPermutation-trans _ _ _ (IsPermutation-cons (whole (suc k)) _ _ before) (subst (λ (n : ℕ). IsPermutation (whole n ∷ ys) zs) (add-one k) put))
+pub channels_more : (k : ℕ) (ys zs : List FreeSequence) → 1 ≤ k → IsPermutation (whole_channels (k - 1)) ys → IsPermutation (whole k ∷ ys) zs → IsPermutation (whole_channels k) zs
+channels_more zero ys zs some before put = absurd (omega arith)
+channels_more (suc k) ys zs some before put =
+    let same : suc k - 1 ≡ k = omega arith in
+    IsPermutation-trans _ _ _ (IsPermutation-cons (whole (suc k)) _ _ (subst (λ (n : ℕ). IsPermutation (whole_channels n) ys) same before)) put
 
 pub length_channels : (k : ℕ) → length (whole_channels k) ≡ k
 length_channels zero = refl

@@ -36,7 +36,7 @@ module _ {g : Ghosts FreeSequence} (w : ℕ) (s : FreeSequence) (a b : Bag FreeS
   crowded same full = record { s = s; others = held b; chosen = chosen; too_many = omega (arith, same, full) }
 
 -- only the first n rows matter
-splits_kept : (m most : ℕ) (free : List FreeSequence) (n : ℕ) (rows rows' : List Row) (left : List FreeSequence) → ((k : ℕ) (d : Row) → k < n → get_or rows' k d ≡ get_or rows k d) → Splits m most free n rows left → Splits m most free n rows' left
+pub splits_kept : (m most : ℕ) (free : List FreeSequence) (n : ℕ) (rows rows' : List Row) (left : List FreeSequence) → ((k : ℕ) (d : Row) → k < n → get_or rows' k d ≡ get_or rows k d) → Splits m most free n rows left → Splits m most free n rows' left
 splits_kept m most free zero rows rows' left same h = h
 splits_kept m most free (suc n) rows rows' left same h = (
   h.0,

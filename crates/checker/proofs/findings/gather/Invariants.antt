@@ -5,5 +5,5 @@ use Rattle.checker.proofs.findings.gather.Given as goal
 
 abbrev pub invariant-loop-place : goal.invariant-loop-place
 invariant-loop-place l =
-    IsPermutation (gathered l.delay l.pages l.end l.scratch l.place) (held l.bag)
+    IsPermutation (gathered l.swept.film.delay l.swept.film.pages l.swept.end l.swept.cells.now l.place) (held l.bag)
     × SameMemory l.initial.bag l.bag
