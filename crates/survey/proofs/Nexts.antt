@@ -37,9 +37,6 @@ getD_noted n u xs (p ∷ ps) i room l =
     ∙ ap (λ v. cond (member (i + 1) ps) u v) (getD_note n u xs p i room l)
     ∙ cond_twice (eqb (i + 1) p) (member (i + 1) ps) u (get_or xs i 0)
 
-coming_none : (L : ℕ → List ℕ) (p end : ℕ) → Coming L p end end end
-coming_none L p end = record { ahead = (omega arith, omega arith); quiet = λ u a b. absurd (omega arith); comes = λ a. absurd (omega arith) }
-
 coming_here : (L : ℕ → List ℕ) (p u end : ℕ) → u < end → member p (L u) ≡ true → Coming L p u end u
 coming_here L p u end l e = record { ahead = (omega arith, omega arith); quiet = λ u' a b. absurd (omega arith); comes = λ a. e }
 
@@ -50,9 +47,6 @@ coming_past L p T u end v is e h = record {
   comes = h.comes;
 }
 
-pub comings_none : (L : ℕ → List ℕ) (n end : ℕ) (xs : List ℕ) → ((i : ℕ) → i < n → get_or xs i 0 ≡ end) → Comings L n end end xs
-comings_none L n end xs h i l = subst (λ v. Coming L (i + 1) end end v) (sym (h i l)) (coming_none L (i + 1) end)
-
 pub comings_step : (L : ℕ → List ℕ) (n T u end : ℕ) (xs ys : List ℕ) → T ≡ u + 1 → n ≤ length xs → u < end → ys ≡ noted n u xs (L u) → Comings L n T end xs → Comings L n u end ys
 comings_step L n T u end xs ys is room low e h i l =
     subst (λ v. Coming L (i + 1) u end v) (sym (ap (λ z. get_or z i 0) e ∙ getD_noted n u xs (L u) i room l))
@@ -60,9 +54,6 @@ comings_step L n T u end xs ys is room low e h i l =
       | true ↦ λ w. coming_here L (i + 1) u end low w
       | false ↦ λ w. coming_past L (i + 1) T u end (get_or xs i 0) is w (h i l)
     ] refl)
-
-pub comings_kept : (L : ℕ → List ℕ) (n u end : ℕ) (xs ys : List ℕ) → ((i : ℕ) → i < n → get_or ys i 0 ≡ get_or xs i 0) → Comings L n u end xs → Comings L n u end ys
-comings_kept L n u end xs ys e h i l = subst (λ v. Coming L (i + 1) u end v) (sym (e i l)) (h i l)
 
 came_none : (L : ℕ → List ℕ) (p t a : ℕ) → ((u : ℕ) → t ≤ u → u < t + a → member p (L u) ≡ false) → came L p t a ≡ false
 came_none L p t zero h = refl

@@ -13,9 +13,6 @@ top_step S s n b l =
     let f : suc s ≡ s + 1 = omega arith in
     ap (λ k. top S s k b) e ∙ ap (λ x. top S x (n - (s + 1)) (max b (S s))) f
 
-pub top_end : (S : ℕ → ℕ) (s n b : ℕ) → n ≤ s → top S s (n - s) b ≡ b
-top_end S s n b l = let e : n - s ≡ 0 = omega arith in ap (λ k. top S s k b) e
-
 pub top_same : (S R : ℕ → ℕ) (j k b : ℕ) → ((i : ℕ) → j ≤ i → i < j + k → S i ≡ R i) → top S j k b ≡ top R j k b
 top_same S R j zero b h = refl
 top_same S R j (suc k) b h =
@@ -57,16 +54,16 @@ leb_zero : (d : ℕ) → eqb d 0 ≡ leb d 0
 leb_zero d = grind (arith, nat_tests)
 
 -- the arrivals up to slot s are the pages that come by it
-pub total_is : (n : ℕ) (xs : List ℕ) (d : ℕ → ℕ) → ((s : ℕ) → s < n → get_or xs (n + s) 0 ≡ count n (λ i. eqb (d i) s)) → (s : ℕ) → s < n → total n xs (suc s) ≡ count n (λ i. leb (d i) s)
+pub total_is : (n : ℕ) (xs : List ℕ) (d : ℕ → ℕ) → ((s : ℕ) → s < n → get_or xs s 0 ≡ count n (λ i. eqb (d i) s)) → (s : ℕ) → s < n → total xs (suc s) ≡ count n (λ i. leb (d i) s)
 total_is n xs d h zero l =
-    let a : get_or xs (n + 0) 0 ≡ count n (λ i. eqb (d i) 0) = h 0 l in
+    let a : get_or xs 0 0 ≡ count n (λ i. eqb (d i) 0) = h 0 l in
     let b : count n (λ i. eqb (d i) 0) ≡ count n (λ i. leb (d i) 0) = count_same n _ _ (λ i l'. leb_zero (d i)) in
     omega arith
 total_is n xs d h (suc s) l =
-    let a : get_or xs (n + suc s) 0 ≡ count n (λ i. eqb (d i) (suc s)) = h (suc s) l in
-    let rest : total n xs (suc s) ≡ count n (λ i. leb (d i) s) = total_is n xs d h s (omega arith) in
+    let a : get_or xs (suc s) 0 ≡ count n (λ i. eqb (d i) (suc s)) = h (suc s) l in
+    let rest : total xs (suc s) ≡ count n (λ i. leb (d i) s) = total_is n xs d h s (omega arith) in
     let b : count n (λ i. leb (d i) (suc s)) ≡ count n (λ i. leb (d i) s || eqb (d i) (suc s)) = count_same n _ _ (λ i l'. leb_more (d i) s) in
     let e : count n (λ i. leb (d i) s || eqb (d i) (suc s)) ≡ count n (λ i. leb (d i) s) + count n (λ i. eqb (d i) (suc s)) =
     count_or n (λ i. leb (d i) s) (λ i. eqb (d i) (suc s)) (λ i l' x. ne_eqb (d i) (suc s) (λ y. let z = leb-true (d i) s x in omega arith)) in
-    let f : total n xs (suc (suc s)) ≡ total n xs (suc s) + get_or xs (n + suc s) 0 = refl in
+    let f : total xs (suc (suc s)) ≡ total xs (suc s) + get_or xs (suc s) 0 = refl in
     omega arith

@@ -1,4 +1,4 @@
--- What the cells of a survey hold: n next comings, and then n counts of arrivals.
+-- What the cells of a survey hold: the next comings of n pages, and the counts of arrivals in n slots.
 use Rattle.std.specs.Prelude.{◌≡◌, ℕ, zero, suc, ◌+◌, ◌-◌, ◌<◌, ◌≤◌, min, true, false, cond, ◌&&◌, List, [], ◌∷◌, nat_le, slice_index, slice_set}
 use Rattle.receiver.specs.Stores.{member}
 
@@ -26,6 +26,6 @@ abbrev pub late : ℕ → ℕ → ℕ → List ℕ → ℕ → ℕ
 late m n t xs i = min ((slice_index xs i - t) - m) (n - 1)
 
 -- the arrivals that are counted in the first s slots of the film
-abbrev pub total : ℕ → List ℕ → ℕ → ℕ
-total n xs zero = 0
-total n xs (suc s) = total n xs s + slice_index xs (n + s)
+abbrev pub total : List ℕ → ℕ → ℕ
+total xs zero = 0
+total xs (suc s) = total xs s + slice_index xs s

@@ -1,37 +1,28 @@
-// The next coming of each page: cell i holds the slot in which page i + 1 comes next.
-ghost use Rattle.std.specs.Prelude.{◌≡◌, ℕ, ◌<◌, ◌≤◌, length, slice_index};
+// The next coming of each page: place i holds the slot in which page i + 1 comes next.
+ghost use Rattle.std.specs.Prelude.{◌≡◌, length};
 ghost use Rattle.timetable.specs.Closed.{line};
 ghost use Rattle.survey.specs.Cells.{note_one, noted};
 
 use timetable::interface::Timetable;
 
-// No page was seen yet before the end.
-pub fn unseen(cells: &mut [u32], film: u16, end: u32)
-    requires room { film ≤ length cells.old }
-    ensures all_end { (i : ℕ) → i < film → slice_index cells.new i ≡ end }
-{
-    for place in 0..film {
-        cells[place as usize] = end;
-    }
-}
-
 // A page is sent in a slot before those that were noted.
-fn note_page(cells: &mut [u32], film: u16, page: u16, slot: u32)
-    requires room { film ≤ length cells.old }
-    ensures notes_page { cells.new ≡ note_one film slot cells.old page }
+fn note_page(nexts: &mut [u32], page: u16, slot: u32)
+    ensures notes_page { nexts.new ≡ note_one (length nexts.old) slot nexts.old page }
 {
-    if page >= 1 && page <= film {
-        cells[page as usize - 1] = slot;
+    let Some(place) = usize::from(page).checked_sub(1) else {
+        return;
+    };
+    if place < nexts.len() {
+        nexts[place] = slot;
     }
 }
 
 // All pages of a slot.
-pub fn note_slot<T: Timetable>(table: &T, cells: &mut [u32], film: u16, slot: u32)
-    requires room { film ≤ length cells.old }
-    ensures notes_line { cells.new
-        ≡ noted film slot cells.old (line (T.meaning table.now) slot) }
+pub fn note_slot<T: Timetable>(table: &T, nexts: &mut [u32], slot: u32)
+    ensures notes_line { nexts.new
+        ≡ noted (length nexts.old) slot nexts.old (line (T.meaning table.now) slot) }
 {
-    for place in 0..table.channels() {
-        note_page(cells, film, table.page_at(place + 1, slot), slot);
+    for channel in 1..=table.channels() {
+        note_page(nexts, table.page_at(channel, slot), slot);
     }
 }

@@ -16,17 +16,19 @@ fn greatest_peak<T: Timetable>(table: &T, delay: u16, film: u16, cells: &mut [u3
     ensures surveyed { Airable (T.meaning table.now) delay film
         → PeakOf (T.meaning table.now) delay film result.0 result.1 }
 {
+    let (nexts, rest) = cells.split_at_mut(usize::from(film));
+    let (arrivals, _) = rest.split_at_mut(usize::from(film));
     let period = table.period();
-    let end = period + delay as u32 + film as u32;
-    comings::unseen(cells, film, end);
+    let end = period + u32::from(delay) + u32::from(film);
+    nexts.fill(end);
     for after in (period..end).rev() {
-        comings::note_slot(table, cells, film, after);
+        comings::note_slot(table, nexts, after);
     }
     let mut best = 0;
     let mut first = 0;
     for slot in (0..period).rev() {
-        comings::note_slot(table, cells, film, slot);
-        let peak = arrivals::peak_from(cells, delay, film, slot);
+        comings::note_slot(table, nexts, slot);
+        let peak = arrivals::peak_from(nexts, arrivals, delay, slot);
         if peak >= best {
             best = peak;
             first = slot;
@@ -47,7 +49,7 @@ pub fn survey_cells<T: Timetable>(
     ensures all_zero { cells.new ≡ replicate (length cells.old) 0 }
 {
     let guard = Scratch { cells };
-    if guard.cells.len() < 2 * pages as usize {
+    if guard.cells.len() < 2 * usize::from(pages) {
         return Err(SurveyRefusal::ShortScratch);
     }
     if table.period() > LONGEST {
