@@ -9,11 +9,11 @@ use Rattle.plans.specs.Periods.{PeriodOf}
 use Rattle.planner.specs.Dealing.{RowLaid, KeptBelow, ChannelDealt, DealtTo}
 use Rattle.planner.specs.declared.subchannel.Subchannel.{Subchannel}
 
-pub row_laid_more : (m s f n : ℕ) (table : List Subchannel) (row : ℕ) (x : Subchannel) → row + n < length table → x.first ≡ first_of m s f n → x.pages ≡ share_of m s f n → RowLaid m s f n table row → RowLaid m s f (n + 1) (set table (row + n) x) row
-row_laid_more m s f n table row x room e d laid =
-    below_more _ _
+pub row_laid_more : (m s f n : ℕ) (table : List Subchannel) (row i : ℕ) (x : Subchannel) → i ≡ n → row + n < length table → x.first ≡ first_of m s f n → x.pages ≡ share_of m s f n → RowLaid m s f n table row → RowLaid m s f (n + 1) (set table (row + i) x) row
+row_laid_more m s f n table row i x same room e d laid =
+    rw same (below_more _ _
     (λ j h. let ne : row + j ≢ row + n = omega arith in rw get_or-set_other (laid j h))
-    (rw get_or-set_same (e, d))
+    (rw get_or-set_same (e, d)))
 
 pub kept_below_more : (row n : ℕ) (old table : List Subchannel) (x : Subchannel) → KeptBelow row old table → KeptBelow row old (set table (row + n) x)
 kept_below_more row n old table x kept i h =

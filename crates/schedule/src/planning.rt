@@ -2,25 +2,24 @@
 ghost use Rattle.schedule.specs.Planning.{FilmInRange, PagodaAnswered, Scheduled};
 ghost use Rattle.std.specs.Prelude.{MatchBool};
 
-use crate::schedule::*;
+use crate::schedule::Schedule;
 use format::plan::Parts;
 use nodes::period::tree_period;
 use planner::pagoda::Pagoda;
 use plans::refusal::Refusal;
 use records::kinds::{Channel, Film};
 use rows::period::rows_period;
+use rows::rows::Rows;
 use std::alloc::Global;
+use tree::plan::Tree;
 
 // Whether the numbers of a film are such as a plan may have.
 fn in_range(film: Film) -> bool
     ensures decides { MatchBool result (FilmInRange film) (FilmInRange film → ⊥) }
 {
-    1 <= film.delay
-        && film.delay <= 1024
-        && 1 <= film.pages
-        && film.pages <= 1024
-        && 1 <= film.channels
-        && film.channels <= 8
+    (1..=1024).contains(&film.delay)
+        && (1..=1024).contains(&film.pages)
+        && (1..=8).contains(&film.channels)
 }
 
 // The pagoda plan of a film, which has to have as many channels and pages as the film.
@@ -49,7 +48,7 @@ pub fn schedule_of(heap: Global, film: Film, parts: Parts) -> Result<Schedule, R
         Parts::Pagoda(list) => Ok(Schedule::Pagoda(pagoda_of(heap, film, list.as_slice())?)),
         Parts::Rows(rows) => {
             let period = rows_period(rows.as_slice())?;
-            Ok(Schedule::Rows(RowPlan {
+            Ok(Schedule::Rows(Rows {
                 rows,
                 channels,
                 period,
@@ -57,7 +56,7 @@ pub fn schedule_of(heap: Global, film: Film, parts: Parts) -> Result<Schedule, R
         }
         Parts::Tree(nodes) => {
             let period = tree_period(heap, nodes.as_slice(), channels)?;
-            Ok(Schedule::Tree(TreePlan {
+            Ok(Schedule::Tree(Tree {
                 nodes,
                 channels,
                 period,

@@ -21,7 +21,7 @@ impl Fast {
         ensures plan_or_out_of_range { FastAnswer channels result }
         ensures starves_nobody { FastSound result }
     {
-        if channels == 0 || channels > 8 {
+        if !(1..=8).contains(&channels) {
             return Err(Refusal::OutOfRange);
         }
         Ok(Fast { channels })

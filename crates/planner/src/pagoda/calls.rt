@@ -1,5 +1,5 @@
-ghost use Rattle.std.specs.Prelude.{◌≡◌, ◌+◌, ◌<◌, ◌≤◌, vec_len};
-ghost use Rattle.planner.specs.Pagoda.{count_at, pagoda, pagoda_lawful};
+ghost use Rattle.std.specs.Prelude.{◌≡◌, ◌+◌, ◌<◌, ◌≤◌, vec_len, MatchBool};
+ghost use Rattle.planner.specs.Pagoda.{Askable, count_at, pagoda, pagoda_lawful};
 ghost use Rattle.planner.specs.PagodaAnswers.{Own, PagodaAnswer, PagodaSound};
 
 use super::Pagoda;
@@ -10,19 +10,24 @@ use records::kinds::Channel;
 use std::alloc::Global;
 use timetable::interface::Timetable;
 
+// Whether a plan may be asked for with a delay and so many channels.
+fn askable(delay: u16, channels: &[Channel]) -> bool
+    ensures decides { MatchBool result (Askable delay channels.now) (Askable delay channels.now → ⊥) }
+{
+    (1..=1024).contains(&delay) && (1..=8).contains(&channels.len())
+}
+
 // The plan for a delay and the subchannels of each channel, as `Pagoda::plan` answers it.
 fn planned(heap: Global, delay: u16, channels: &[Channel]) -> Result<Pagoda, Refusal>
     ensures plan_or_refusal { PagodaAnswer delay channels.now result }
 {
-    if delay == 0 || delay > 1024 || channels.is_empty() || channels.len() > 8 {
+    if !askable(delay, channels) {
         return Err(Refusal::OutOfRange);
     }
     let blank = Subchannel { first: 0, pages: 0 };
     let mut table = Vec::from_elem(heap, blank, ROW * channels.len())?;
     let dealt = deal(table.as_mut_slice(), delay, channels)?;
-    let Some(period) = dealt.period else {
-        return Err(Refusal::PeriodTooLong);
-    };
+    let period = dealt.period.ok_or(Refusal::PeriodTooLong)?;
     let channels = Vec::from_slice(heap, channels)?;
     Ok(Pagoda {
         delay,

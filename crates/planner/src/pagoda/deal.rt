@@ -50,7 +50,7 @@ fn deal_channel(
         if first + pages > MOST_PAGES + 1 {
             return None;
         }
-        table[row + turn as usize] = Subchannel { first, pages };
+        table[row + usize::from(turn)] = Subchannel { first, pages };
         period = joined(period, u32::from(subchannels) * u32::from(pages));
         first += pages;
     }
@@ -62,7 +62,7 @@ fn takes(delay: u16, subchannels: u8, first: u16) -> bool
     requires in_range { (1 ≤ first) × (first ≤ 1025) × (delay ≤ 1024) }
     ensures decides { MatchBool result (Takes delay subchannels first) (Takes delay subchannels first → ⊥) }
 {
-    1 <= subchannels && subchannels <= 32 && u16::from(subchannels) <= delay + first - 1
+    (1..=32).contains(&subchannels) && u16::from(subchannels) <= delay + first - 1
 }
 
 // Deals pages to all channels, in order, into a table with a row for each, or refuses at the first that gets none.
@@ -79,15 +79,14 @@ pub(super) fn deal(
         first: 1,
         period: Some(1),
     };
-    for k in 0..channels.len() {
-        let subchannels = channels[k].subchannels;
+    for (k, channel) in channels.iter().enumerate() {
+        let subchannels = channel.subchannels;
         if !takes(delay, subchannels, progress.first) {
             return Err(Refusal::WrongSubchannels);
         }
-        let Some(next) = deal_channel(table, ROW * k, delay, subchannels, progress) else {
-            return Err(Refusal::TooManyPages);
-        };
-        progress = next;
+        progress = deal_channel(table, ROW * k, delay, subchannels, progress).ok_or(
+            Refusal::TooManyPages,
+        )?;
     }
     Ok(progress)
 }

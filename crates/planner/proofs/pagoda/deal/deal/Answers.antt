@@ -1,5 +1,5 @@
 use Rattle.std.proofs.Common.{◌≡◌, ℕ, length, subst, arith}
-use Rattle.planner.specs.Dealing.{DealtTo}
+use Rattle.planner.specs.Dealing.{ChannelDealt, DealtTo}
 use Rattle.planner.proofs.Table.{dealt_none, dealt_next}
 use Rattle.planner.proofs.pagoda.deal.deal.Goals as goal
 
@@ -9,7 +9,7 @@ loop-k-init c = dealt_none _ _ _
 pub loop-k-preserved : goal.loop-k-preserved
 loop-k-preserved c =
     dealt_next _ _ c.loop-k.k _ _ c.loop-k.progress _ c.loop-k.invariant c.if-not-takes.ensures.decides
-    c.in-Some.ensures.dealt c.in-Some.ensures.kept
+    (subst (ChannelDealt _ _ _ _ _ _) c.in_ok-progress.ensures.ok_part c.deal_channel.ensures.dealt) c.deal_channel.ensures.kept
 
 pub returns : goal.returns
 returns c =

@@ -18,8 +18,8 @@ loop-turn-preserved c =
       next_first c.args.delay c.args.subchannels c.args.from.first c.loop-turn.turn c.loop-turn.first c.pages_from-pages.result c.loop-turn.invariant.0 (omega arith),
       omega arith,
       omega arith,
-      row_laid_more _ _ _ c.loop-turn.turn c.loop-turn.table c.args.row _ (omega arith) c.loop-turn.invariant.0 shared c.loop-turn.invariant.3,
-      kept_below_more c.args.row c.loop-turn.turn _ c.loop-turn.table _ c.loop-turn.invariant.4,
+      row_laid_more _ _ _ c.loop-turn.turn c.loop-turn.table c.args.row c.from.result _ (omega arith) (omega arith) c.loop-turn.invariant.0 shared c.loop-turn.invariant.3,
+      kept_below_more c.args.row c.from.result _ c.loop-turn.table _ c.loop-turn.invariant.4,
       λ xs h.
           next_period c.args.delay c.args.subchannels c.args.from.first c.loop-turn.turn xs _ _
           (same_product _ _ _ _ (omega arith) (omega (arith, shared)))
