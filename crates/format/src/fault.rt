@@ -2,20 +2,19 @@
 ghost use Rattle.std.specs.Prelude.{◌≡◌};
 ghost use Rattle.format.specs.declared.fault.WriteFault.TheVariants.{Unfit as NotRead};
 
-use records::fault::Fault;
-
+// Why a plan is not written, where reading its bytes has faults of the type F.
 #[derive(Clone, Copy, Debug, PartialEq, Eq)]
-pub enum WriteFault {
+pub enum WriteFault<F> {
     // Reading would refuse the bytes, with this fault.
-    Unfit(Fault),
+    Unfit(F),
     // The output list is too short.
     NoRoom,
 }
 
-impl From<Fault> for WriteFault {
+impl<F> From<F> for WriteFault<F> {
     ghost from_gives = { λ f r. r ≡ NotRead f };
 
-    fn from(fault: Fault) -> WriteFault {
+    fn from(fault: F) -> WriteFault<F> {
         WriteFault::Unfit(fault)
     }
 }

@@ -10,7 +10,7 @@ use Rattle.format.specs.Writing.{PutAll}
 use Rattle.load.specs.declared.loading.Loaded.{Loaded}
 use Rattle.load.specs.Loading.{Loads, reading}
 use Rattle.load.specs.Saving.{Unsaved, unfit, no_room, no_memory, Saves, Saved}
-use Rattle.load.specs.declared.fault.SaveFault.TheVariants.{NoRoom}
+use Rattle.format.specs.declared.fault.WriteFault.TheVariants.{NoRoom}
 
 -- bytes that are not made
 pub not_made : (p : Plan) (room : ℕ) (f : Fault) → Unappended (file_of p) f → Unsaved p room (told f).0 (told f).1

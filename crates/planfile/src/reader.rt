@@ -47,6 +47,7 @@ fn misfit(bytes: &[u8], at: usize) -> Fault
 }
 
 // The plan records, all of one sort, that begin at `at`, and where they end.
+// Kept so: each sort has a type, a limit and a case of its own, and a trait that tells the three is longer than the three readings.
 fn read_parts(heap: Global, bytes: &[u8], at: usize) -> Result<(Parts, usize), Fault>
     ensures reads_one_sort { MatchResult result (λ p. PartsAt bytes.now at p.1 (parts_of p.0)) (AfterFilm bytes.now at) }
 {

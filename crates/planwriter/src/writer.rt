@@ -52,7 +52,7 @@ pub fn put_bytes(bytes: &[u8], out: &mut [u8]) -> Option<usize>
     Some(length)
 }
 
-fn put_plan(heap: Global, plan: &Plan, out: &mut [u8]) -> Result<usize, WriteFault>
+fn put_plan(heap: Global, plan: &Plan, out: &mut [u8]) -> Result<usize, WriteFault<Fault>>
     ensures writes { Written plan.now out.old out.new result }
 {
     let bytes = plan_bytes(heap, plan)?;
@@ -61,7 +61,7 @@ fn put_plan(heap: Global, plan: &Plan, out: &mut [u8]) -> Result<usize, WriteFau
 }
 
 // Writes a plan to the beginning of `out`, and answers how many bytes it took. What reading would refuse is not written, and then `out` stays as it was.
-pub fn write_plan(heap: Global, plan: &Plan, out: &mut [u8]) -> Result<usize, WriteFault>
+pub fn write_plan(heap: Global, plan: &Plan, out: &mut [u8]) -> Result<usize, WriteFault<Fault>>
     ensures writes { Written plan.now out.old out.new result }
     ensures reads_back { ReadsBack plan.now out.new result }
     ensures writes_back { WritesBack plan.now out.old out.new result }

@@ -38,6 +38,7 @@ impl Fault {
     }
 }
 
+// Kept so: std has two errors for want of memory, and `?` needs an impl for each.
 impl From<AllocError> for Fault {
     ghost from_gives = { λ _ r. r ≡ OutOfMemory };
 

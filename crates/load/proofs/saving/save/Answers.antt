@@ -1,7 +1,6 @@
 use Rattle.std.proofs.Common.{◌≡◌, length, sym, refl, ◌∙◌, subst}
 use Rattle.records.proofs.Exits.{exit}
-use Rattle.load.specs.declared.fault.LoadFault.TheVariants.{Reading}
-use Rattle.load.specs.declared.fault.SaveFault.TheVariants.{Unfit}
+use Rattle.format.specs.declared.fault.WriteFault.TheVariants.{Unfit}
 use Rattle.load.specs.Loading.{Loads, LoadRefused}
 use Rattle.load.specs.Told.{told_load}
 use Rattle.load.specs.Saving.{Unsaved, unfit, Saves, Saved, told_save}
@@ -13,9 +12,10 @@ returns-in_err-bytes c =
     let p = c.args.plan.now in
     let out = c.args.out.now in
     let f = c.in_err-bytes.field-0.0 in
+    let why = c.in_err-bytes.ensures.makes_the_bytes in
     record {
-      saves_or_refuses = exit (Saves p out out) (λ f. Unsaved p (length out) (told_save f).0 (told_save f).1 × (out ≡ out)) c.from_residual.result (Unfit (Reading f)) c.from_residual.ensures.1
-          (not_made p (length out) f c.in_err-bytes.ensures.makes_the_bytes, refl);
+      saves_or_refuses = exit (Saves p out out) (λ f. Unsaved p (length out) (told_save f).0 (told_save f).1 × (out ≡ out)) c.from_residual.result (Unfit f) c.from_residual.ensures.1
+          (subst (λ f. Unsaved p (length out) (told_load f).0 (told_load f).1) (sym why.is) (not_made p (length out) why.fault why.unappended), refl);
     }
 
 pub returns-in_err-load : goal.returns-in_err-load
