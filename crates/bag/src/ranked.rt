@@ -10,6 +10,7 @@ pub trait Ranked: Sized + Copy {
     ghost blank: { Self };
 
     // The record that a free place holds.
+    // Kept so: a bound on `Default` gives the type of every bag one more argument in each definition, and says no more.
     fn zero() -> Self
         ensures is_blank { result ≡ blank };
 

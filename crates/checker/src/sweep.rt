@@ -24,6 +24,7 @@ fn missed(waiting: u32, found: u32, window: u32, by: u32) -> u32
     }
 }
 
+// Kept so: both numbers of each page lie in the one slice that the caller lends.
 // One entry of the sweep: `page` is sent in `slot`. A number that is no page of the film changes nothing.
 fn settle(scratch: &mut [u32], film: Film, page: u16, slot: u32)
     requires slot_small { slot < 2 ^ 29 }
@@ -53,6 +54,7 @@ pub(crate) fn sweep<T: Timetable>(
         (λ _. Clean (T.meaning table.now) highest end 1 × Heard (T.meaning table.now) film.delay film.pages end 1 scratch.new)
         (λ e. FirstStray (T.meaning table.now) highest e.slot e.channel e.page) }
 {
+    // Kept so: by a rule of the project, the sweep is two loops that are left by a label at the first stray entry.
     let mut outcome = Ok(());
     'sweep: for slot in 0..end {
         for channel in 1..=table.channels() {

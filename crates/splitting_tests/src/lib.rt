@@ -100,14 +100,10 @@ mod tests {
     }
 
     fn begins(plan: &Rows, channel: u8, pages: &[u16]) -> bool {
-        let mut slot = 0;
-        for page in pages {
-            if plan.page_at(channel, slot) != *page {
-                return false;
-            }
-            slot = slot.saturating_add(1);
-        }
-        true
+        pages
+            .iter()
+            .zip(0..)
+            .all(|(page, slot)| plan.page_at(channel, slot) == *page)
     }
 
     fn carries_known_pages(rows: &[Row]) -> bool {
@@ -126,13 +122,10 @@ mod tests {
     fn known_plan(pages: u16, rows: &mut [Row], places: &mut [FreeSequence]) -> bool {
         let count = usize::from(pages);
         let mut bag = Bag::over(places);
-        if plan(1, 4, pages, rows, &mut bag) != Ok(720) || bag.len() != 0 {
-            return false;
-        }
-        if rows.len() <= count || rows[count] != OLD_ROW {
-            return false;
-        }
-        carries_known_pages(&rows[..count])
+        plan(1, 4, pages, rows, &mut bag) == Ok(720)
+            && bag.len() == 0
+            && rows.get(count) == Some(&OLD_ROW)
+            && carries_known_pages(&rows[..count])
     }
 
     #[test]
@@ -151,15 +144,9 @@ mod tests {
     ) -> bool {
         let mut bag = Bag::over(places);
         let _ = bag.put(OLD_PLACE);
-        if plan(delay, channels, pages, rows, &mut bag) != Err(refusal) || bag.len() != 0 {
-            return false;
-        }
-        for row in rows {
-            if *row != NO_ROW {
-                return false;
-            }
-        }
-        true
+        plan(delay, channels, pages, rows, &mut bag) == Err(refusal)
+            && bag.len() == 0
+            && rows.iter().all(|row| *row == NO_ROW)
     }
 
     #[test]

@@ -27,6 +27,7 @@ impl Timetable for Grid<'_> {
         if self.period == 0 || channel == 0 || channel > self.channels {
             return 0;
         }
+        // Kept so: no `usize::from` takes 32 bits.
         let line = (slot % self.period) as usize * usize::from(self.channels);
         let place = line + usize::from(channel) - 1;
         self.cells.get(place).copied().unwrap_or(0)
