@@ -1,24 +1,9 @@
 // The pages that arrive in each slot of the film, for one tune-in: place s counts those that come s slots after the delay, and
 // place 0 also those that come within it. There is a place for each page.
-ghost use Rattle.std.specs.Prelude.{◌≡◌, ℕ, suc, ◌-◌, ◌<◌, ◌≤◌, length, nat_eq, nat_le, slice_index};
+ghost use Rattle.std.specs.Prelude.{◌≡◌, suc, ◌-◌, ◌≤◌, length, nat_le};
 ghost use Rattle.receiver.specs.Count.{count};
 ghost use Rattle.feeding.specs.Laws.{top};
 ghost use Rattle.survey.specs.Cells.{late, total};
-
-// Counts each page in the slot in which it arrives.
-fn spread(nexts: &[u32], arrivals: &mut [u32], delay: u16, slot: u32)
-    requires same_film { length arrivals.old ≡ length nexts.now }
-    requires short { length nexts.now ≤ 65535 }
-    ensures counted { (s : ℕ) → s < length nexts.now → slice_index arrivals.new s
-        ≡ count (length nexts.now)
-        (λ i. nat_eq (late delay (length nexts.now) slot nexts.now i) s) }
-{
-    arrivals.fill(0);
-    for next in nexts {
-        let behind = next.saturating_sub(slot).saturating_sub(u32::from(delay)) as usize;
-        arrivals[behind.min(nexts.len() - 1)] += 1;
-    }
-}
 
 // The greatest stock, from the arrivals.
 fn crest(arrivals: &[u32]) -> usize
@@ -35,7 +20,8 @@ fn crest(arrivals: &[u32]) -> usize
     best
 }
 
-// The peak of a receiver that tunes in at a slot, from the next coming of each page.
+// The peak of a receiver that tunes in at a slot, from the next coming of each page, which is counted in the slot in which it
+// arrives.
 pub fn peak_from(nexts: &[u32], arrivals: &mut [u32], delay: u16, slot: u32) -> u16
     requires same_film { length arrivals.old ≡ length nexts.now }
     requires short { length nexts.now ≤ 65535 }
@@ -44,6 +30,10 @@ pub fn peak_from(nexts: &[u32], arrivals: &mut [u32], delay: u16, slot: u32) -> 
         (λ i. nat_le (late delay (length nexts.now) slot nexts.now i) s) - s)
         0 (length nexts.now) 0 }
 {
-    spread(nexts, arrivals, delay, slot);
+    arrivals.fill(0);
+    for next in nexts {
+        let behind = next.saturating_sub(slot).saturating_sub(u32::from(delay)) as usize;
+        arrivals[behind.min(nexts.len() - 1)] += 1;
+    }
     crest(arrivals) as u16
 }
