@@ -1,21 +1,17 @@
 -- What a pagoda plan keeps answers its questions.
-use Rattle.std.proofs.Common.{◌≡◌, ℕ, suc, ◌+◌, ◌-◌, ◌*◌, ◌/◌, ◌%◌, ◌<◌, ◌≤◌, List, length, get_or, sym, ap, arith}
+use Rattle.std.proofs.Common.{◌≡◌, ℕ, suc, ◌+◌, ◌-◌, ◌/◌, ◌%◌, ◌<◌, ◌≤◌, List, length, get_or, sym, ap, arith}
 use Rattle.std.proofs.lemmas.List.{get_or_read}
 use Rattle.records.specs.declared.kinds.Channel.{Channel}
-use Rattle.planner.specs.Pagoda.{Deals, count_at, begins, share_of, first_of, place, pagoda}
-use Rattle.planner.specs.declared.subchannel.Subchannel.{Subchannel}
+use Rattle.planner.specs.Pagoda.{Deals, count_at, begins, share_of, first_of, pagoda}
 use Rattle.planner.proofs.Channels.{first_of_grows}
 use Rattle.planner.proofs.PagodaPlans.{pagoda_at}
 
 pub count_read : (cs : List Channel) (i : ℕ) (x : Channel) → i < length cs → x ≡ get_or cs i x → x.subchannels ≡ count_at cs i
 count_read cs i x h e = ap (λ (c : Channel). c.subchannels) (get_or_read cs i x h e (record { subchannels = 0 }))
 
-pub place_read : (table : List Subchannel) (i j : ℕ) (x : Subchannel) → 32 * i + j < length table → x ≡ get_or table (32 * i + j) x → x ≡ place table i j
-place_read table i j x h e = get_or_read table (32 * i + j) x h e (record { first = 0; pages = 0 })
-
--- a fact of some channels and a table holds of equal ones
-pub moved : (P : List Channel → ℕ → List Subchannel → Type 0) (cs cs' : List Channel) (n n' : ℕ) (t t' : List Subchannel) → cs' ≡ cs → n' ≡ n → t' ≡ t → P cs n t → P cs' n' t'
-moved P cs cs' n n' t t' e d f h = rw (e, d, f) h
+-- a fact of some channels holds of equal ones
+pub moved : (P : List Channel → ℕ → Type 0) (cs cs' : List Channel) (n n' : ℕ) → cs' ≡ cs → n' ≡ n → P cs n → P cs' n'
+moved P cs cs' n n' e d h = rw (e, d) h
 
 module _ (m : ℕ) (cs : List Channel) (n : ℕ) (deals : Deals m cs n) where
   -- the pages of a subchannel are pages of the film

@@ -1,23 +1,15 @@
--- One subchannel more in the table.
-use Rattle.std.proofs.Common.{◌≡◌, ℕ, ◌+◌, ◌*◌, ◌<◌, ◌≢◌, List, [], ◌∷◌, ◌++◌, length, set, Some, Option, refl, ap, ◌∙◌, subst, append_assoc, add-one, arith, get_or-set_other, get_or-set_same, below_more}
+-- The subchannels of the channels, one after the other.
+use Rattle.std.proofs.Common.{◌≡◌, ℕ, zero, suc, ◌+◌, ◌*◌, ◌<◌, List, [], ◌∷◌, ◌++◌, length, get_or, Some, Option, refl, ap, ◌∙◌, append_assoc, add-one, inl, inr, arith, below_more}
+use Rattle.std.proofs.lemmas.Bool.{cases_lt}
+use Rattle.std.proofs.lemmas.List.{length_push, get_or_push, get_or_append_left}
 use Rattle.records.specs.declared.kinds.Channel.{Channel}
 use Rattle.numbers.proofs.All.{lcm_all_none}
-use Rattle.planner.specs.Pagoda.{Deals, Takes, count_at, begins, place, cycles, first_of, share, share_of, channel_cycles}
+use Rattle.planner.specs.Pagoda.{Takes, count_at, begins, cycles, first_of, share, share_of, channel_cycles, subchannels_of, laid}
 use Rattle.planner.specs.declared.pagoda.deal.Progress.{Progress}
 use Rattle.planner.proofs.Channels.{first_of_low}
 use Rattle.plans.specs.Periods.{PeriodOf}
-use Rattle.planner.specs.Dealing.{RowLaid, KeptBelow, ChannelDealt, DealtTo}
+use Rattle.planner.specs.Dealing.{OneDealt, DealtTo}
 use Rattle.planner.specs.declared.subchannel.Subchannel.{Subchannel}
-
-pub row_laid_more : (m s f n : ℕ) (table : List Subchannel) (row i : ℕ) (x : Subchannel) → i ≡ n → row + n < length table → x.first ≡ first_of m s f n → x.pages ≡ share_of m s f n → RowLaid m s f n table row → RowLaid m s f (n + 1) (set table (row + i) x) row
-row_laid_more m s f n table row i x same room e d laid =
-    rw same (below_more _ _
-    (λ j h. let ne : row + j ≢ row + n = omega arith in rw get_or-set_other (laid j h))
-    (rw get_or-set_same (e, d)))
-
-pub kept_below_more : (row n : ℕ) (old table : List Subchannel) (x : Subchannel) → KeptBelow row old table → KeptBelow row old (set table (row + n) x)
-kept_below_more row n old table x kept i h =
-    let ne : i ≢ row + n = omega arith in rw get_or-set_other (kept i h)
 
 -- what the next subchannel begins with
 pub next_first : (m s f n first pages : ℕ) → first ≡ first_of m s f n → pages ≡ share m s first → first + pages ≡ first_of m s f (n + 1)
@@ -26,57 +18,70 @@ next_first m s f n first pages e d = rw (d, e, add-one n)
 pub next_share : (m s f n first pages : ℕ) → first ≡ first_of m s f n → pages ≡ share m s first → pages ≡ share_of m s f n
 next_share m s f n first pages e d = d ∙ ap (λ (x : ℕ). share m s x) e
 
+-- one subchannel more
+pub next_dealt : (m s f n first pages : ℕ) (xs : List Subchannel) → first ≡ first_of m s f n → pages ≡ share_of m s f n → xs ≡ subchannels_of m s f n → xs ++ (record { first = first; pages = pages } ∷ []) ≡ subchannels_of m s f (n + 1)
+next_dealt m s f n first pages xs e d h = rw (add-one n, h, e, d)
+
 -- one cycle more
 pub next_period : (m s f n : ℕ) (xs : List ℕ) (r : Option ℕ) (cycle : ℕ) → cycle ≡ s * share_of m s f n → PeriodOf ((xs ++ channel_cycles m s f n) ++ (cycle ∷ [])) r → PeriodOf (xs ++ channel_cycles m s f (n + 1)) r
 next_period m s f n xs r cycle e h = rw (add-one n, ← append_assoc, ← e) h
 
 -- before the first channel
-pub dealt_none : (m : ℕ) (cs : List Channel) (table : List Subchannel) → DealtTo m cs 0 table (record { first = 1; period = Some 1 })
-dealt_none m cs table = record {
+pub dealt_none : (m : ℕ) (cs : List Channel) → DealtTo m cs 0 [] (record { first = 1; period = Some 1 })
+dealt_none m cs = record {
   next = refl;
   low = omega arith;
   high = omega arith;
   deals = λ i h. absurd (omega (arith, h));
-  firsts = λ i j h. absurd (omega (arith, h.0));
-  shares = λ i j h. absurd (omega (arith, h.0));
+  lists = refl;
   together = (lcm_all_none, omega arith, omega arith);
 }
 
-module _ (m : ℕ) (cs : List Channel) (k : ℕ) (old new : List Subchannel) (p q : Progress) (h : DealtTo m cs k old p)
-    (t : Takes m (count_at cs k) (begins m cs k))
-    (d : ChannelDealt m (count_at cs k) (begins m cs k) p.period new (32 * k) (Some q))
-    (kept : KeptBelow (32 * k) old new) where
-  more_deals : Deals m cs (k + 1)
-  more_deals = below_more _ _ h.deals (t, omega (arith, d.0, d.1))
-
-  -- a row before is as it was
-  kept_row : (i j : ℕ) → i < k → j < count_at cs i → place new i j ≡ place old i j
-  kept_row i j low high = kept (32 * i + j) (omega (arith, low, high, (h.deals i low).0.1))
-
-  more_firsts : (i : ℕ) → i < k + 1 → (j : ℕ) → j < count_at cs i → (place new i j).first ≡ first_of m (count_at cs i) (begins m cs i) j
-  more_firsts =
-      below_more _ _ (λ i low j high. ap (λ (x : Subchannel). x.first) (kept_row i j low high) ∙ h.firsts i j (low, high))
-      (λ j high. (d.2 j high).0)
-
-  more_shares : (i : ℕ) → i < k + 1 → (j : ℕ) → j < count_at cs i → (place new i j).pages ≡ share_of m (count_at cs i) (begins m cs i) j
-  more_shares =
-      below_more _ _ (λ i low j high. ap (λ (x : Subchannel). x.pages) (kept_row i j low high) ∙ h.shares i j (low, high))
-      (λ j high. (d.2 j high).1)
-
-  -- one channel more
-  pub dealt_more : DealtTo m cs (k + 1) new q
-  dealt_more = record {
-    next = rw (add-one k) d.0;
-    low = omega (arith, d.0, first_of_low m (count_at cs k) (begins m cs k) (count_at cs k), h.next, h.low);
-    high = d.1;
-    deals = more_deals;
-    firsts = λ i j g. more_firsts i g.0 j g.1;
-    shares = λ i j g. more_shares i g.0 j g.1;
-    together = rw (add-one k) (d.3 (cycles m cs k) h.together);
-  }
+-- one channel more
+dealt_more : (m : ℕ) (cs : List Channel) (k : ℕ) (all : List (List Subchannel)) (xs : List Subchannel) (p q : Progress) → DealtTo m cs k all p → Takes m (count_at cs k) (begins m cs k) → OneDealt m (count_at cs k) (begins m cs k) p.period xs q → DealtTo m cs (k + 1) (all ++ (xs ∷ [])) q
+dealt_more m cs k all xs p q h t d = record {
+  next = rw (add-one k) d.next;
+  low = omega (arith, d.next, first_of_low m (count_at cs k) (begins m cs k) (count_at cs k), h.next, h.low);
+  high = d.high;
+  deals = below_more _ _ h.deals (t, omega (arith, d.next, d.high));
+  lists = rw (add-one k, h.lists, d.subchannels) refl;
+  together = rw (add-one k) (d.together (cycles m cs k) h.together);
+}
 
 -- the same, from what the code has: the progress so far says where the channel begins
-pub dealt_next : (m : ℕ) (cs : List Channel) (k : ℕ) (old new : List Subchannel) (p q : Progress) → DealtTo m cs k old p → Takes m (count_at cs k) p.first → ChannelDealt m (count_at cs k) p.first p.period new (32 * k) (Some q) → KeptBelow (32 * k) old new → DealtTo m cs (k + 1) new q
-dealt_next m cs k old new p q h t d kept =
-    dealt_more m cs k old new p q h (subst (λ (f : ℕ). Takes m (count_at cs k) f) h.next t)
-    (subst (λ (f : ℕ). ChannelDealt m (count_at cs k) f p.period new (32 * k) (Some q)) h.next d) kept
+pub dealt_next : (m : ℕ) (cs : List Channel) (k s : ℕ) (all : List (List Subchannel)) (xs : List Subchannel) (p q : Progress) → s ≡ count_at cs k → DealtTo m cs k all p → Takes m s p.first → OneDealt m s p.first p.period xs q → DealtTo m cs (k + 1) (all ++ (xs ∷ [])) q
+dealt_next m cs k s all xs p q count h t d =
+    dealt_more m cs k all xs p q h (rw (← count, ← h.next) t) (rw (← count, ← h.next) d)
+
+-- how many subchannels a channel has, and each of them
+pub many_of : (m s f n : ℕ) → length (subchannels_of m s f n) ≡ n
+many_of m s f zero = refl
+many_of m s f (suc n) = length_push (subchannels_of m s f n) _ ∙ ap (λ (x : ℕ). x + 1) (many_of m s f n) ∙ add-one n
+
+-- an element of a list with one more at the end
+pushed : {X : Type 0} (xs : List X) (y d : X) (i n : ℕ) → length xs ≡ n → i < n → get_or (xs ++ (y ∷ [])) i d ≡ get_or xs i d
+pushed xs y d i n many low = get_or_append_left xs (y ∷ []) d i (omega (arith, many, low))
+
+pub subchannel_of : (m s f n j : ℕ) (d : Subchannel) → j < n → get_or (subchannels_of m s f n) j d ≡ record { first = first_of m s f j; pages = share_of m s f j }
+subchannel_of m s f zero j d low = absurd (omega (arith, low))
+subchannel_of m s f (suc n) j d low =
+    elim (cases_lt j n) [
+      | inl less ↦ pushed (subchannels_of m s f n) _ d j n (many_of m s f n) less ∙ subchannel_of m s f n j d less
+      | inr more ↦
+          let e : n ≡ j = omega arith in
+          get_or_push (subchannels_of m s f n) _ d j (many_of m s f n ∙ e) ∙ ap (λ (x : ℕ). record { first = first_of m s f x; pages = share_of m s f x }) e
+    ]
+
+pub many_laid : (m : ℕ) (cs : List Channel) (k : ℕ) → length (laid m cs k) ≡ k
+many_laid m cs zero = refl
+many_laid m cs (suc k) = length_push (laid m cs k) _ ∙ ap (λ (x : ℕ). x + 1) (many_laid m cs k) ∙ add-one k
+
+pub channel_laid : (m : ℕ) (cs : List Channel) (n k : ℕ) (d : List Subchannel) → k < n → get_or (laid m cs n) k d ≡ subchannels_of m (count_at cs k) (begins m cs k) (count_at cs k)
+channel_laid m cs zero k d low = absurd (omega (arith, low))
+channel_laid m cs (suc n) k d low =
+    elim (cases_lt k n) [
+      | inl less ↦ pushed (laid m cs n) _ d k n (many_laid m cs n) less ∙ channel_laid m cs n k d less
+      | inr more ↦
+          let e : n ≡ k = omega arith in
+          get_or_push (laid m cs n) _ d k (many_laid m cs n ∙ e) ∙ ap (λ (x : ℕ). subchannels_of m (count_at cs x) (begins m cs x) (count_at cs x)) e
+    ]

@@ -1,7 +1,7 @@
 -- The pagoda plan of a delay m and the subchannel counts of some channels. A channel of s subchannels lends them its
 -- slots in turn, so that each has every s-th slot; a subchannel carries some pages one after the other, over and over.
 -- The pages 1, 2, 3 and so on are dealt to the channels in order, and on each channel to its subchannels in order.
-use Rattle.std.specs.Prelude.{◌≡◌, ℕ, zero, suc, ◌+◌, ◌-◌, ◌*◌, ◌/◌, ◌%◌, ◌<◌, ◌≤◌, ◌⊎◌, List, [], ◌∷◌, ◌++◌, length, get_or, slice_index_or}
+use Rattle.std.specs.Prelude.{◌≡◌, ℕ, zero, suc, ◌+◌, ◌-◌, ◌*◌, ◌/◌, ◌%◌, ◌<◌, ◌≤◌, ◌⊎◌, List, [], ◌∷◌, ◌++◌, length, get_or}
 use Rattle.records.specs.declared.kinds.Channel.{Channel}
 use Rattle.timetable.specs.Meaning.{Meaning, Lawful, repeating, repeating_lawful}
 use Rattle.timetable.specs.Windows.{window}
@@ -78,19 +78,15 @@ Takes m s f = (1 ≤ s) × (s ≤ 32) × (s ≤ window m f)
 abbrev pub Deals : ℕ → List Channel → ℕ → Type 0
 Deals m cs k = (i : ℕ) → i < k → Takes m (count_at cs i) (begins m cs i) × (dealt m cs (suc i) ≤ 1024)
 
--- the place j of row i in a table with rows of 32
-abbrev pub place : List Subchannel → ℕ → ℕ → Subchannel
-place table i j = slice_index_or table (32 * i + j) (record { first = 0; pages = 0 })
+-- the first j subchannels of a channel that begins with page f
+abbrev pub subchannels_of : ℕ → ℕ → ℕ → ℕ → List Subchannel
+subchannels_of m s f zero = []
+subchannels_of m s f (suc j) = subchannels_of m s f j ++ (record { first = first_of m s f j; pages = share_of m s f j } ∷ [])
 
--- a table has the first pages of the subchannels of the first k channels, a row of 32 for each channel
-abbrev pub FirstsLaid : ℕ → List Channel → ℕ → List Subchannel → Type 0
-FirstsLaid m cs k table =
-    (i j : ℕ) → (i < k) × (j < count_at cs i) → (place table i j).first ≡ first_of m (count_at cs i) (begins m cs i) j
-
--- and how many pages each has
-abbrev pub SharesLaid : ℕ → List Channel → ℕ → List Subchannel → Type 0
-SharesLaid m cs k table =
-    (i j : ℕ) → (i < k) × (j < count_at cs i) → (place table i j).pages ≡ share_of m (count_at cs i) (begins m cs i) j
+-- the subchannels of each of the first k channels
+abbrev pub laid : ℕ → List Channel → ℕ → List (List Subchannel)
+laid m cs zero = []
+laid m cs (suc k) = laid m cs k ++ (subchannels_of m (count_at cs k) (begins m cs k) (count_at cs k) ∷ [])
 
 -- channel k is the first that gets no pages: it may not have its subchannels, told by 2, or its pages pass 1,024, told by 3
 pub record BadChannel (m : ℕ) (cs : List Channel) (t : ℕ × List ℕ) : Type 0 where

@@ -1,5 +1,5 @@
-ghost use Rattle.std.specs.Prelude.{◌≡◌, ◌*◌, ◌<◌, ◌≤◌, vec_len};
-ghost use Rattle.planner.specs.Pagoda.{Deals, FirstsLaid, SharesLaid};
+ghost use Rattle.std.specs.Prelude.{◌≡◌, ◌<◌, ◌≤◌, map, vec_items, vec_len};
+ghost use Rattle.planner.specs.Pagoda.{Deals, laid};
 
 use crate::subchannel::Subchannel;
 use records::kinds::Channel;
@@ -14,12 +14,10 @@ pub struct Pagoda {
     pages: u16,
     period: u32,
     channels: Vec<Channel>,
-    // a row of 32 places for the subchannels of each channel
-    table: Vec<Subchannel>,
+    // the subchannels of each channel
+    dealt: Vec<Vec<Subchannel>>,
     ghost few: { vec_len channels ≤ 8 },
     ghost positive: { 0 < period },
     ghost deals: { Deals delay channels.items (vec_len channels) },
-    ghost rows: { vec_len table ≡ 32 * vec_len channels },
-    ghost firsts: { FirstsLaid delay channels.items (vec_len channels) table.items },
-    ghost shares: { SharesLaid delay channels.items (vec_len channels) table.items },
+    ghost laid: { map vec_items dealt.items ≡ laid delay channels.items (vec_len channels) },
 }

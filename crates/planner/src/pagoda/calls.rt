@@ -3,7 +3,7 @@ ghost use Rattle.planner.specs.Pagoda.{Askable, count_at, pagoda, pagoda_lawful}
 ghost use Rattle.planner.specs.PagodaAnswers.{Own, PagodaAnswer, PagodaSound};
 
 use super::Pagoda;
-use super::deal::{ROW, deal};
+use super::deal::deal;
 use crate::subchannel::Subchannel;
 use plans::refusal::Refusal;
 use records::kinds::Channel;
@@ -24,17 +24,15 @@ fn planned(heap: Global, delay: u16, channels: &[Channel]) -> Result<Pagoda, Ref
     if !askable(delay, channels) {
         return Err(Refusal::OutOfRange);
     }
-    let blank = Subchannel { first: 0, pages: 0 };
-    let mut table = Vec::from_elem(heap, blank, ROW * channels.len())?;
-    let dealt = deal(table.as_mut_slice(), delay, channels)?;
-    let period = dealt.period.ok_or(Refusal::PeriodTooLong)?;
+    let (dealt, last) = deal(heap, delay, channels)?;
+    let period = last.period.ok_or(Refusal::PeriodTooLong)?;
     let channels = Vec::from_slice(heap, channels)?;
     Ok(Pagoda {
         delay,
-        pages: dealt.first - 1,
+        pages: last.first - 1,
         period,
         channels,
-        table,
+        dealt,
     })
 }
 
@@ -79,7 +77,7 @@ impl Pagoda {
         ensures own { Own self.now index turn result }
         ensures small { (1 ≤ result.pages) × (result.first + result.pages ≤ 1025) }
     {
-        self.table[ROW * index + turn as usize]
+        self.dealt[index][turn as usize]
     }
 }
 

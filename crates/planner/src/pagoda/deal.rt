@@ -1,14 +1,12 @@
-ghost use Rattle.std.specs.Prelude.{◌≡◌, ◌+◌, ◌*◌, ◌≤◌, length, MatchBool};
-ghost use Rattle.planner.specs.Dealing.{AllDealt, ChannelDealt, KeptBelow};
+ghost use Rattle.std.specs.Prelude.{◌≡◌, ◌≤◌, length, MatchBool};
+ghost use Rattle.planner.specs.Dealing.{AllDealt, ChannelDealt};
 ghost use Rattle.planner.specs.Pagoda.{Takes, share};
 
 use crate::subchannel::Subchannel;
 use plans::period::joined;
 use plans::refusal::Refusal;
 use records::kinds::Channel;
-
-// The places for the subchannels of one channel, which are the most that it may have.
-pub const ROW: usize = 32;
+use std::alloc::Global;
 
 // The most pages that a film may have.
 const MOST_PAGES: u16 = 1024;
@@ -29,32 +27,30 @@ fn pages_from(delay: u16, subchannels: u8, first: u16) -> u16
     (delay + first - 1) / u16::from(subchannels)
 }
 
-// Deals pages to the subchannels of one channel into the table, from the place `row` on; `None` where they pass 1,024.
+// Deals pages to the subchannels of one channel, or refuses where they pass 1,024.
 fn deal_channel(
-    table: &mut [Subchannel],
-    row: usize,
+    heap: Global,
     delay: u16,
     subchannels: u8,
     from: Progress,
-) -> Option<Progress>
-    requires room { row + 32 ≤ length table.old }
+) -> Result<(Vec<Subchannel>, Progress), Refusal>
     requires in_range { (1 ≤ from.first) × (from.first ≤ 1025) × (delay ≤ 1024) }
     requires takes { Takes delay subchannels from.first }
-    ensures dealt { ChannelDealt delay subchannels from.first from.period table.new row result }
-    ensures kept { KeptBelow row table.old table.new }
+    ensures dealt { ChannelDealt delay subchannels from.first from.period result }
 {
+    let mut dealt = Vec::with_capacity(heap, usize::from(subchannels))?;
     let mut first = from.first;
     let mut period = from.period;
     for turn in 0..subchannels {
         let pages = pages_from(delay, subchannels, first);
         if first + pages > MOST_PAGES + 1 {
-            return None;
+            return Err(Refusal::TooManyPages);
         }
-        table[row + usize::from(turn)] = Subchannel { first, pages };
+        dealt.push_reserved(Subchannel { first, pages });
         period = joined(period, u32::from(subchannels) * u32::from(pages));
         first += pages;
     }
-    Some(Progress { first, period })
+    Ok((dealt, Progress { first, period }))
 }
 
 // Whether a channel that begins with page `first` may have so many subchannels.
@@ -65,28 +61,28 @@ fn takes(delay: u16, subchannels: u8, first: u16) -> bool
     (1..=32).contains(&subchannels) && u16::from(subchannels) <= delay + first - 1
 }
 
-// Deals pages to all channels, in order, into a table with a row for each, or refuses at the first that gets none.
+// Deals pages to all channels, in order, or refuses at the first that gets none.
 pub(super) fn deal(
-    table: &mut [Subchannel],
+    heap: Global,
     delay: u16,
     channels: &[Channel],
-) -> Result<Progress, Refusal>
-    requires rows { length table.old ≡ 32 * length channels.now }
+) -> Result<(Vec<Vec<Subchannel>>, Progress), Refusal>
     requires in_range { (1 ≤ delay) × (delay ≤ 1024) × (length channels.now ≤ 8) }
-    ensures all_dealt { AllDealt delay channels.now table.new result }
+    ensures all_dealt { AllDealt delay channels.now result }
 {
+    let mut all = Vec::with_capacity(heap, channels.len())?;
     let mut progress = Progress {
         first: 1,
         period: Some(1),
     };
-    for (k, channel) in channels.iter().enumerate() {
+    for channel in channels {
         let subchannels = channel.subchannels;
         if !takes(delay, subchannels, progress.first) {
             return Err(Refusal::WrongSubchannels);
         }
-        progress = deal_channel(table, ROW * k, delay, subchannels, progress).ok_or(
-            Refusal::TooManyPages,
-        )?;
+        let (dealt, next) = deal_channel(heap, delay, subchannels, progress)?;
+        all.push_reserved(dealt);
+        progress = next;
     }
-    Ok(progress)
+    Ok((all, progress))
 }

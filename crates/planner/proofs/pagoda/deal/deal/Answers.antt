@@ -1,19 +1,28 @@
-use Rattle.std.proofs.Common.{◌≡◌, ℕ, length, subst, arith}
-use Rattle.planner.specs.Dealing.{ChannelDealt, DealtTo}
+use Rattle.std.proofs.Common.{◌+◌, List, map, vec_items, refl, sym, ap, ◌∙◌, subst, arith}
+use Rattle.std.proofs.lemmas.List.{map_push}
+use Rattle.planner.specs.Dealing.{DealtTo}
+use Rattle.planner.specs.declared.subchannel.Subchannel.{Subchannel}
 use Rattle.planner.proofs.Table.{dealt_none, dealt_next}
 use Rattle.planner.proofs.pagoda.deal.deal.Goals as goal
 
-pub loop-k-init : goal.loop-k-init
-loop-k-init c = dealt_none _ _ _
-
-pub loop-k-preserved : goal.loop-k-preserved
-loop-k-preserved c =
-    dealt_next _ _ c.loop-k.k _ _ c.loop-k.progress _ c.loop-k.invariant c.if-not-takes.ensures.decides
-    (subst (ChannelDealt _ _ _ _ _ _) c.in_ok-progress.ensures.ok_part c.deal_channel.ensures.dealt) c.deal_channel.ensures.kept
-
-pub returns : goal.returns
-returns c =
-    let all : c.loop-k.k ≡ length c.args.channels.now = omega arith in
+pub loop-channel-init : goal.loop-channel-init
+loop-channel-init c =
     record {
-      all_dealt = subst (λ (n : ℕ). DealtTo c.args.delay c.args.channels.now n c.loop-k.table c.loop-k.progress) all c.loop-k.invariant;
+      places = c.in_ok-all.ensures.exact;
+      many = c.in_ok-all.ensures.len;
+      so_far = rw c.in_ok-all.ensures.items (dealt_none c.args.delay c.args.channels.now);
+    }
+
+pub loop-channel-preserved : goal.loop-channel-preserved
+loop-channel-preserved c =
+    let i = c.loop-channel.invariant in
+    let before = vec_items c.loop-channel.all in
+    record {
+      places = c.push_reserved.ensures.capacity ∙ i.places;
+      many = omega (arith, c.push_reserved.ensures.len, i.many);
+      so_far =
+          subst (λ (all : List (List Subchannel)). DealtTo c.args.delay c.args.channels.now (c.loop-channel.channel-index + 1) all c.in_ok-dealt.next)
+          (sym (ap (map vec_items) c.push_reserved.ensures.items ∙ map_push vec_items before c.in_ok-dealt.dealt))
+          (dealt_next c.args.delay c.args.channels.now c.loop-channel.channel-index _ (map vec_items before) (vec_items c.in_ok-dealt.dealt) c.loop-channel.progress c.in_ok-dealt.next refl i.so_far
+          c.if-not-takes.ensures.decides c.in_ok-dealt.ensures.dealt);
     }

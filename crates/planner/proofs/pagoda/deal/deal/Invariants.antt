@@ -1,5 +1,12 @@
+use Rattle.std.proofs.Common.{◌≡◌, length, map, vec_items, vec_len}
+use Rattle.std.specs.Vec.{vec_capacity}
 use Rattle.planner.specs.Dealing.{DealtTo}
 use Rattle.planner.proofs.pagoda.deal.deal.Given as goal
 
-abbrev pub invariant-loop-k : goal.invariant-loop-k
-invariant-loop-k l = DealtTo l.delay l.channels l.k l.table l.progress
+abbrev pub invariant-loop-channel : goal.invariant-loop-channel
+invariant-loop-channel l =
+    record {
+      places : vec_capacity l.all ≡ length l.channels;
+      many : vec_len l.all ≡ l.channel-index;
+      so_far : DealtTo l.delay l.channels l.channel-index (map vec_items (vec_items l.all)) l.progress;
+    }
