@@ -1,2 +1,1 @@
-mod Faulty
 mod Ranges

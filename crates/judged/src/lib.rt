@@ -1,5 +1,4 @@
 // What the bench prints of a plan file, as values.
 #![tactic(auto)]
 
-pub mod fault;
 pub mod lines;

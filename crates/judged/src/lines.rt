@@ -1,11 +1,13 @@
 // The lines on a plan file.
-ghost use Rattle.judged.specs.Reports.{Told, Untold, FaultLine, Reported};
+ghost use Rattle.judged.specs.Reports.{Told, Reported};
+ghost use Rattle.report.specs.Reports.{Untold};
 ghost use Rattle.std.specs.Prelude.{IfOk, MatchResult};
 
-use crate::fault::*;
 use judging::judge::judge;
-use judging::line::Line;
+use line::Line;
 use load::loading::{Loaded, load};
+use report::fault::*;
+use report::lines::or_fault_line;
 use std::alloc::{AllocError, Global};
 use timetable::interface::Timetable;
 
@@ -28,25 +30,9 @@ fn plan_lines(heap: Global, bytes: &[u8]) -> Result<Vec<Line>, ReportFault>
     Ok(lines)
 }
 
-// The one line on a fault, unless it is want of memory.
-fn fault_line(heap: Global, fault: ReportFault) -> Result<Vec<Line>, AllocError>
-    ensures tells_the_fault { IfOk result (λ v. FaultLine fault v.items) }
-{
-    match fault {
-        ReportFault::Memory => Err(AllocError),
-        ReportFault::Loading(loading) => match loading.numbers() {
-            None => Err(AllocError),
-            Some((number, byte, lower)) => Ok(vec![in heap; Line::Fault(number, byte, lower)]?),
-        },
-    }
-}
-
 // The lines on a file: of the plan that it holds, or of its one fault.
 pub fn report(heap: Global, bytes: &[u8]) -> Result<Vec<Line>, AllocError>
     ensures reports { IfOk result (λ v. Reported bytes.now v.items) }
 {
-    match plan_lines(heap, bytes) {
-        Ok(lines) => Ok(lines),
-        Err(fault) => fault_line(heap, fault),
-    }
+    or_fault_line(heap, plan_lines(heap, bytes))
 }

@@ -17,8 +17,8 @@ use Rattle.station.specs.Calls.{Replied, Run}
 use Rattle.station.specs.States.{State, Told, found, surveyed, refused, SurveyTold, not_passed, short_scratch, long_period, peak, FindingsTold, few_cells, short_bag, all_found, verdict_told, after_check, with_phase}
 use Rattle.station.specs.States as states
 use Rattle.runs.specs.declared.rehearsal.Script.{Script}
-use Rattle.judging.specs.declared.line.Line.{Line}
-use Rattle.judging.specs.declared.line.Line.TheVariants as line
+use Rattle.line.specs.declared.Line.{Line}
+use Rattle.line.specs.declared.Line.TheVariants as line
 use Rattle.judging.specs.Judgements.{Bookable, Judgement, miss}
 use Rattle.judging.specs.Judgements as judgements
 use Rattle.judging.specs.Telling.{Scripted, Tells, told_lines, all_lines}

@@ -9,8 +9,8 @@ use Rattle.checker.specs.Findings.{Findings}
 use Rattle.station.specs.States.{in_table}
 use Rattle.station.specs.Tables.{entry_at}
 use Rattle.survey.specs.Surveys.{PeakOf}
-use Rattle.judging.specs.declared.line.Line.{Line}
-use Rattle.judging.specs.declared.line.Line.TheVariants as line
+use Rattle.line.specs.declared.Line.{Line}
+use Rattle.line.specs.declared.Line.TheVariants as line
 
 abbrev pub miss : Finding → Line
 miss f = line.Miss f.page f.slot

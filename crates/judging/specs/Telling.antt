@@ -10,8 +10,8 @@ use Rattle.runs.specs.declared.rehearsal.Rehearsal.{Rehearsal}
 use Rattle.runs.specs.declared.rehearsal.Script.{Script}
 use Rattle.runs.specs.declared.rehearsal.Viewer.{Viewer}
 use Rattle.judging.specs.Judgements.{miss}
-use Rattle.judging.specs.declared.line.Line.{Line}
-use Rattle.judging.specs.declared.line.Line.TheVariants as line
+use Rattle.line.specs.declared.Line.{Line}
+use Rattle.line.specs.declared.Line.TheVariants as line
 
 -- scratch with two cells for each of n pages
 abbrev pub Cells : ℕ → Vec ℕ Global → Type 0

@@ -5,9 +5,9 @@ ghost use Rattle.timetable.specs.Windows.{InRange};
 ghost use Rattle.judging.specs.Judgements.{Bookable, Judgement};
 ghost use Rattle.judging.specs.Telling.{Tells};
 
-use crate::line::Line;
 use crate::script::script_of;
 use crate::telling::lines_of;
+use line::Line;
 use records::kinds::Closure;
 use runs::rehearsal::Viewer;
 use runs::rehearse::rehearse;
@@ -17,8 +17,9 @@ use timetable::interface::Timetable;
 // The mark of the station that judges.
 const MARK: u32 = 0;
 
-// What the answers of the judging calls say, as `judge` has it.
-fn tell<T: Timetable + Drop>(
+// What is said of a film of so many pages with such a delay over a timetable of which some entries are closed: the check, what
+// starves where it does not pass, and how much a receiver has to hold where it does.
+pub fn judge<T: Timetable + Drop>(
     heap: Global,
     delay: u16,
     pages: u16,
@@ -26,9 +27,10 @@ fn tell<T: Timetable + Drop>(
     closures: &[Closure],
 ) -> Result<Vec<Line>, AllocError>
     ensures tells_the_run { IfOk result (λ v. Tells (T.meaning table) delay pages closures.now v.items) }
+    ensures judges { IfOk result (λ v. Bookable (T.meaning table) closures.now → InRange (T.meaning table) delay pages → Judgement (aired (T.meaning table) closures.now) delay pages v.items) }
 {
     let script = script_of(heap, pages, closures)?;
-    let mut store = Vec::from_elem(heap, 0u8, pages as usize)?;
+    let mut store = Vec::from_elem(heap, 0u8, usize::from(pages))?;
     let viewer = Viewer {
         tick: 0,
         capacity: pages,
@@ -44,19 +46,4 @@ fn tell<T: Timetable + Drop>(
         store.as_mut_slice(),
     )?;
     lines_of(heap, rehearsal.replies.as_slice())
-}
-
-// What is said of a film of so many pages with such a delay over a timetable of which some entries are closed: the check, what
-// starves where it does not pass, and how much a receiver has to hold where it does.
-pub fn judge<T: Timetable + Drop>(
-    heap: Global,
-    delay: u16,
-    pages: u16,
-    table: T,
-    closures: &[Closure],
-) -> Result<Vec<Line>, AllocError>
-    ensures tells_the_run { IfOk result (λ v. Tells (T.meaning table) delay pages closures.now v.items) }
-    ensures judges { IfOk result (λ v. Bookable (T.meaning table) closures.now → InRange (T.meaning table) delay pages → Judgement (aired (T.meaning table) closures.now) delay pages v.items) }
-{
-    tell(heap, delay, pages, table, closures)
 }

@@ -2,6 +2,5 @@
 #![tactic(auto)]
 
 pub mod judge;
-pub mod line;
 mod script;
 mod telling;

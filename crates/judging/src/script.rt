@@ -12,18 +12,17 @@ use std::alloc::{AllocError, Global};
 fn cells(heap: Global, pages: u16) -> Result<Vec<u32>, AllocError>
     ensures two_a_page { IfOk result (λ v. Cells pages v) }
 {
-    Vec::from_elem(heap, 0u32, 2 * pages as usize)
+    Vec::from_elem(heap, 0u32, 2 * usize::from(pages))
 }
 
 // Books each closure.
 fn bookings(heap: Global, closures: &[Closure]) -> Result<Vec<Call>, AllocError>
     ensures closes_each { IfOk result (λ v. v.items ≡ map CloseCall closures.now) }
 {
-    let mut calls = Vec::new(heap);
-    for closure in closures {
-        calls.push(Call::Close(*closure))?;
-    }
-    Ok(calls)
+    closures
+        .iter()
+        .map(|closure| Call::Close(*closure))
+        .collect(heap)
 }
 
 // Books each closure and checks; then surveys what passes, and has what starves found where it does not.
@@ -36,10 +35,8 @@ pub(crate) fn script_of(
 {
     let mut opening = bookings(heap, closures)?;
     opening.push(Call::Check(cells(heap, pages)?))?;
-    let mut passed = Vec::new(heap);
-    passed.push(Call::Survey(cells(heap, pages)?))?;
-    let mut otherwise = Vec::new(heap);
-    otherwise.push(Call::Findings(cells(heap, pages)?, pages as usize))?;
+    let passed = vec![in heap; Call::Survey(cells(heap, pages)?)]?;
+    let otherwise = vec![in heap; Call::Findings(cells(heap, pages)?, usize::from(pages))]?;
     Ok(Script {
         opening,
         passed,

@@ -8,9 +8,9 @@ ghost use Rattle.station.specs.Calls.{answered};
 ghost use Rattle.station.specs.States.{told};
 ghost use Rattle.station.specs.declared.refusal.Refusal.TheVariants.{Checking as CheckRefused, Surveying as SurveyRefused};
 
-use crate::line::Line;
 use bag::finding::Finding;
 use checker::refusal::CheckRefusal;
+use line::Line;
 use station::call::{Answer, Reply};
 use station::refusal::Refusal;
 use std::alloc::{AllocError, Global};
@@ -20,10 +20,11 @@ use survey::refusal::SurveyRefusal;
 fn note_findings(lines: &mut Vec<Line>, findings: &[Finding]) -> Result<(), AllocError>
     ensures misses { OnOk result (lines.new.items ≡ lines.old.items ++ map miss findings.now) }
 {
-    for finding in findings {
-        lines.push(Line::Miss(finding.page, finding.slot))?;
-    }
-    Ok(())
+    lines.extend(
+        findings
+            .iter()
+            .map(|finding| Line::Miss(finding.page, finding.slot)),
+    )
 }
 
 fn check_line(refusal: CheckRefusal) -> Option<Line>
@@ -57,26 +58,20 @@ fn refusal_line(refusal: Refusal) -> Option<Line>
 }
 
 // What an answer says, after what was said.
-fn note_answer(lines: &mut Vec<Line>, answer: &Answer) -> Result<(), AllocError>
+fn note_answer(lines: &mut Vec<Line>, answer: &Result<Answer, Refusal>) -> Result<(), AllocError>
     ensures says_answer { OnOk result (lines.new.items ≡ lines.old.items ++ told_lines (answered answer.now)) }
 {
     match answer {
-        Answer::Passed => {
-            lines.push(Line::Pass)?;
-            Ok(())
-        }
-        Answer::Found(findings) => note_findings(lines, findings.as_slice()),
-        Answer::Surveyed(peak, slot) => {
-            lines.push(Line::Stock(*peak, *slot))?;
-            Ok(())
-        }
-        Answer::Refused(refusal) => {
+        Ok(Answer::Passed) => Ok(lines.push(Line::Pass)?),
+        Ok(Answer::Found(findings)) => note_findings(lines, findings.as_slice()),
+        Ok(Answer::Surveyed(peak, slot)) => Ok(lines.push(Line::Stock(*peak, *slot))?),
+        Ok(_) => Ok(()),
+        Err(refusal) => {
             if let Some(line) = refusal_line(*refusal) {
                 lines.push(line)?;
             }
             Ok(())
         }
-        _ => Ok(()),
     }
 }
 

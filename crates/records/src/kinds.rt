@@ -44,7 +44,7 @@ pub enum Node {
 }
 
 // An entry, one channel in one slot, that is closed: nothing is sent in it.
-#[derive(Clone, Copy, Debug, PartialEq, Eq)]
+#[derive(Clone, Copy, Debug, Default, PartialEq, Eq)]
 pub struct Closure {
     pub channel: u8,
     pub slot: u32,

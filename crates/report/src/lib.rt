@@ -2,5 +2,4 @@
 #![tactic(auto)]
 
 pub mod fault;
-pub mod line;
 pub mod lines;

@@ -1,16 +1,13 @@
 -- Calls that are made one after the other.
-use Rattle.std.proofs.Common.{◌≡◌, ℕ, cond, List, [], ◌∷◌, ◌++◌, map, length, vec_items, sym, refl, ap, ◌∙◌, subst, append_assoc, append-nil, arith}
+use Rattle.std.proofs.Common.{◌≡◌, ℕ, cond, List, [], ◌∷◌, ◌++◌, map, vec_items, sym, refl, ap, ◌∙◌, subst, append_assoc}
 use Rattle.std.proofs.lemmas.List.{map-append}
-use Rattle.timetable.specs.Meaning.{Meaning, Lawful}
+use Rattle.timetable.specs.Meaning.{Meaning}
 use Rattle.station.specs.declared.call.Call.{Call}
 use Rattle.station.specs.declared.call.Reply.{Reply}
 use Rattle.station.specs.Calls.{Replied, Does, Run, replied}
 use Rattle.station.specs.States.{State, fresh, passed}
-use Rattle.guarantee.proofs.Theorem.{runs_serve}
-use Rattle.runs.specs.declared.rehearsal.Rehearsal.{Rehearsal}
 use Rattle.runs.specs.declared.rehearsal.Script.{Script}
-use Rattle.runs.specs.declared.rehearsal.Viewer.{Viewer}
-use Rattle.runs.specs.Rehearsals.{Performs, Chosen, Staged, Rehearsed}
+use Rattle.runs.specs.Rehearsals.{Performs, Chosen}
 
 -- one run after another
 pub run_append : (xs ys : List Call) (us bs : List Replied) (s m s' : State) → Run s xs us m → Run m ys bs s' → Run s (xs ++ ys) (us ++ bs) s'
@@ -19,50 +16,15 @@ run_append [] ys (r ∷ us) bs s m s' a b = absurd a
 run_append (x ∷ xs) ys [] bs s m s' a b = absurd a
 run_append (x ∷ xs) ys (r ∷ us) bs s m s' a b = (a.0, a.1, run_append xs ys us bs a.0 m s' a.2 b)
 
--- some of the calls were made, and `rest` are to come
-pub record Doing (s : State) (calls rest : List Call) (before after : List Reply) (s' : State) : Type 0 where
-  pub done : List Call
-  pub split : calls ≡ done ++ rest
-  pub performs : Performs s done before after s'
-
-pub doing_none : (s : State) (calls : List Call) (before : List Reply) → Doing s calls calls before before s
-doing_none s calls before = record {
-  done = [];
-  split = refl;
-  performs = record { replies = []; noted = sym (append-nil before); run = refl };
-}
-
 -- one call more
-pub doing_more : (s : State) (calls rest rest' : List Call) (before after after' : List Reply) (s' s'' : State) (call : Call) (r : Reply)
-    → Doing s calls rest before after s' → rest ≡ call ∷ rest' → Does s' call (replied r) s'' → after' ≡ after ++ r ∷ [] → Doing s calls rest' before after' s''
-doing_more s calls rest rest' before after after' s' s'' call r h next step noted = record {
-  done = h.done ++ call ∷ [];
-  split = h.split ∙ ap (λ cs. h.done ++ cs) next ∙ sym (append_assoc h.done (call ∷ []) rest');
-  performs = record {
-    replies = h.performs.replies ++ r ∷ [];
-    noted = noted ∙ ap (λ rs. rs ++ r ∷ []) h.performs.noted ∙ append_assoc before h.performs.replies (r ∷ []);
-    run = subst (λ rs. Run s (h.done ++ call ∷ []) rs s'') (sym (map-append replied h.performs.replies (r ∷ [])))
-        (run_append h.done (call ∷ []) (map replied h.performs.replies) (replied r ∷ []) s s' s'' h.performs.run (s'', step, refl));
-  };
+pub performs_more : (s : State) (done : List Call) (before after after' : List Reply) (s' s'' : State) (call : Call) (r : Reply)
+    → Performs s done before after s' → Does s' call (replied r) s'' → after' ≡ after ++ r ∷ [] → Performs s (done ++ call ∷ []) before after' s''
+performs_more s done before after after' s' s'' call r h step noted = record {
+  replies = h.replies ++ r ∷ [];
+  noted = noted ∙ ap (λ rs. rs ++ r ∷ []) h.noted ∙ append_assoc before h.replies (r ∷ []);
+  run = subst (λ rs. Run s (done ++ call ∷ []) rs s'') (sym (map-append replied h.replies (r ∷ [])))
+      (run_append done (call ∷ []) (map replied h.replies) (replied r ∷ []) s s' s'' h.run (s'', step, refl));
 }
-
--- all calls
-pub doing_all : (s : State) (calls rest : List Call) (before after : List Reply) (s' : State) → Doing s calls rest before after s' → rest ≡ [] → Performs s calls before after s'
-doing_all s calls rest before after s' h none =
-    subst (λ cs. Performs s cs before after s') (sym (h.split ∙ ap (λ cs. h.done ++ cs) none ∙ append-nil h.done)) h.performs
-
--- two lists of calls, the second after the first
-pub performs_append : (s m s' : State) (xs ys : List Call) (before mid after : List Reply) → Performs s xs before mid m → Performs m ys mid after s' → Performs s (xs ++ ys) before after s'
-performs_append s m s' xs ys before mid after a b = record {
-  replies = a.replies ++ b.replies;
-  noted = b.noted ∙ ap (λ rs. rs ++ b.replies) a.noted ∙ append_assoc before a.replies b.replies;
-  run = subst (λ rs. Run s (xs ++ ys) rs s') (sym (map-append replied a.replies b.replies))
-      (run_append xs ys (map replied a.replies) (map replied b.replies) s m s' a.run b.run);
-}
-
-pub none_left : (cs : List Call) → length cs ≡ 0 → cs ≡ []
-none_left [] h = refl
-none_left (c ∷ cs) h = absurd (omega arith)
 
 -- the opening of a script, and then what it leads to
 module _ (M : Meaning) (m n mark : ℕ) (script : Script) (rest : List Call) (built mid last : State) (none first all : List Reply)
@@ -93,12 +55,3 @@ module _ (M : Meaning) (m n mark : ℕ) (script : Script) (rest : List Call) (bu
   script_run =
       subst (λ rs. Run (fresh M m n mark) (vec_items script.opening ++ rest) rs last) (sym noted_all)
       (run_append (vec_items script.opening) rest (map replied opening.replies) (map replied later.replies) (fresh M m n mark) mid last opened later.run)
-
--- what was staged keeps the guarantee
-pub staged_keeps : (M : Meaning) (m n mark : ℕ) (script : Script) (viewer : Viewer) (store : List ℕ) (v : Rehearsal) (store' : List ℕ) → Lawful M → Staged M m n mark script viewer store v store' → Rehearsed M m n mark script viewer store v store'
-staged_keeps M m n mark script viewer store v store' law h = record {
-  calls = h.calls;
-  chosen = h.chosen;
-  guarantee = runs_serve M m n mark h.calls _ h.last_state law h.run;
-  receiver = h.receiver;
-}

@@ -1,7 +1,7 @@
 -- What a receiver is fed, answer by answer.
 use Rattle.std.proofs.Common.{◌≡◌, ℕ, zero, suc, ◌+◌, ◌<◌, ◌≤◌, true, false, List, [], ◌∷◌, ◌++◌, length, get_or, drop, is_some, Option, sym, refl, ap, ◌∙◌, append_assoc, append-nil}
 use Rattle.std.specs.Option.{option_to_list}
-use Rattle.std.proofs.lemmas.List.{drop-map, drop_more, drop_all}
+use Rattle.std.proofs.lemmas.List.{drop_more, drop_all}
 use Rattle.std.proofs.lemmas.Bool.{both_ways}
 use Rattle.station.specs.declared.call.Reply.{Reply}
 use Rattle.station.specs.Calls.{answered}
@@ -57,44 +57,43 @@ from_tick (ticked c l) rest h = (refl, λ k. refl)
 from_tick withdrawn rest h = absurd (both_ways false refl h)
 from_tick (refused t) rest h = absurd (both_ways false refl h)
 
-module _ (rs : List Reply) (i : ℕ) (d : Reply) (low : i < length rs) where
+module _ (rs : List Reply) (i : ℕ) (r : Reply) (low : i < length rs) (at : r ≡ get_or rs i r) where
   -- the answer at place i
   abbrev here : Told
-  here = answered (get_or rs i d).answer
+  here = answered r.answer
 
   -- the answers from place i on
-  told_drop : drop i (told_of rs) ≡ here ∷ drop (i + 1) (told_of rs)
+  told_drop : told_of (drop i rs) ≡ here ∷ told_of (drop (i + 1) rs)
   told_drop =
-      drop-map (λ x. answered x.answer) i rs
-      ∙ ap (λ xs. told_of xs) (drop_more rs i d low)
-      ∙ ap (λ more. here ∷ more) (sym (drop-map (λ x. answered x.answer) (i + 1) rs))
+      ap (λ xs. told_of xs) (drop_more rs i r low)
+      ∙ ap (λ (x : Reply). answered x.answer ∷ told_of (drop (i + 1) rs)) (sym at)
 
-  module _ (tick left : ℕ) (h : lines_from tick (told_of rs) ≡ lines_from left (drop i (told_of rs))) where
+  module _ (tick left : ℕ) (h : lines_from tick (told_of rs) ≡ lines_from left (told_of (drop i rs))) where
     -- another call's answer
-    pub place_other : false ≡ is_some (line_told here) → lines_from tick (told_of rs) ≡ lines_from left (drop (i + 1) (told_of rs))
+    pub place_other : false ≡ is_some (line_told here) → lines_from tick (told_of rs) ≡ lines_from left (told_of (drop (i + 1) rs))
     place_other e = h ∙ ap (λ ts. lines_from left ts) told_drop ∙ from_other left here _ (sym e)
 
     -- an earlier tick
-    pub place_later : (k : ℕ) → left ≡ suc k → true ≡ is_some (line_told here) → lines_from tick (told_of rs) ≡ lines_from k (drop (i + 1) (told_of rs))
-    place_later k more e = h ∙ ap (λ ts. lines_from left ts) told_drop ∙ ap (λ n. lines_from n (here ∷ drop (i + 1) (told_of rs))) more ∙ (from_tick here _ (sym e)).1 k
+    pub place_later : (k : ℕ) → left ≡ suc k → true ≡ is_some (line_told here) → lines_from tick (told_of rs) ≡ lines_from k (told_of (drop (i + 1) rs))
+    place_later k more e = h ∙ ap (λ ts. lines_from left ts) told_drop ∙ ap (λ n. lines_from n (here ∷ told_of (drop (i + 1) rs))) more ∙ (from_tick here _ (sym e)).1 k
 
     -- the tick
-    pub place_here : left ≡ 0 → true ≡ is_some (line_told here) → lines_from tick (told_of rs) ≡ until_withdrawn (drop i (told_of rs))
+    pub place_here : left ≡ 0 → true ≡ is_some (line_told here) → lines_from tick (told_of rs) ≡ until_withdrawn (told_of (drop i rs))
     place_here none e =
-        h ∙ ap (λ ts. lines_from left ts) told_drop ∙ ap (λ n. lines_from n (here ∷ drop (i + 1) (told_of rs))) none ∙ (from_tick here _ (sym e)).0 ∙ ap (λ ts. until_withdrawn ts) (sym told_drop)
+        h ∙ ap (λ ts. lines_from left ts) told_drop ∙ ap (λ n. lines_from n (here ∷ told_of (drop (i + 1) rs))) none ∙ (from_tick here _ (sym e)).0 ∙ ap (λ ts. until_withdrawn ts) (sym told_drop)
 
-  module _ (all ls : List (List ℕ)) (h : all ≡ ls ++ until_withdrawn (drop i (told_of rs))) where
+  module _ (all ls : List (List ℕ)) (h : all ≡ ls ++ until_withdrawn (told_of (drop i rs))) where
     -- the withdrawal
     pub sent_end : true ≡ withdrawn_told here → ls ≡ all
     sent_end e = sym (h ∙ ap (λ xs. ls ++ xs) (ap (λ ts. until_withdrawn ts) told_drop ∙ until_end here _ (sym e)) ∙ append-nil ls)
 
     -- another answer, with or without a line
-    pub sent_on : (o : Option (List ℕ)) → false ≡ withdrawn_told here → o ≡ line_told here → all ≡ (ls ++ option_to_list o) ++ until_withdrawn (drop (i + 1) (told_of rs))
+    pub sent_on : (o : Option (List ℕ)) → false ≡ withdrawn_told here → o ≡ line_told here → all ≡ (ls ++ option_to_list o) ++ until_withdrawn (told_of (drop (i + 1) rs))
     sent_on o e line =
         h
-        ∙ ap (λ xs. ls ++ xs) (ap (λ ts. until_withdrawn ts) told_drop ∙ until_on here _ (sym e) ∙ ap (λ x. option_to_list x ++ until_withdrawn (drop (i + 1) (told_of rs))) (sym line))
-        ∙ sym (append_assoc ls (option_to_list o) (until_withdrawn (drop (i + 1) (told_of rs))))
+        ∙ ap (λ xs. ls ++ xs) (ap (λ ts. until_withdrawn ts) told_drop ∙ until_on here _ (sym e) ∙ ap (λ x. option_to_list x ++ until_withdrawn (told_of (drop (i + 1) rs))) (sym line))
+        ∙ sym (append_assoc ls (option_to_list o) (until_withdrawn (told_of (drop (i + 1) rs))))
 
 -- past the last reply there is no answer
-pub told_end : (rs : List Reply) (i : ℕ) → length rs ≤ i → drop i (told_of rs) ≡ []
-told_end rs i high = drop-map (λ x. answered x.answer) i rs ∙ ap (λ xs. told_of xs) (drop_all i rs high)
+pub told_end : (rs : List Reply) (i : ℕ) → length rs ≤ i → told_of (drop i rs) ≡ []
+told_end rs i high = ap (λ xs. told_of xs) (drop_all i rs high)

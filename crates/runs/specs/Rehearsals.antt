@@ -62,15 +62,7 @@ pub record Viewed (m n : ℕ) (viewer : Viewer) (store : List ℕ) (v : Rehearsa
   pub shows_as_fed : viewed v.viewing ≡ fed m n viewer.capacity store (lines_from viewer.tick (told_of (vec_items v.replies)))
   pub store_left : store' ≡ left m n viewer.capacity store (lines_from viewer.tick (told_of (vec_items v.replies)))
 
--- a run of the rules, and a receiver beside it
-pub record Staged (M : Meaning) (m n mark : ℕ) (script : Script) (viewer : Viewer) (store : List ℕ) (v : Rehearsal) (store' : List ℕ) : Type 0 where
-  pub calls : List Call
-  pub chosen : Chosen M m n mark script calls (map replied (vec_items v.replies))
-  pub last_state : State
-  pub run : Run (fresh M m n mark) calls (map replied (vec_items v.replies)) last_state
-  pub receiver : Viewed m n viewer store v store'
-
--- the same, with all that holds of such a run
+-- a run of the rules with all that holds of it, and a receiver beside it
 pub record Rehearsed (M : Meaning) (m n mark : ℕ) (script : Script) (viewer : Viewer) (store : List ℕ) (v : Rehearsal) (store' : List ℕ) : Type 0 where
   pub calls : List Call
   pub chosen : Chosen M m n mark script calls (map replied (vec_items v.replies))

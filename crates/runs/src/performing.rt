@@ -17,8 +17,7 @@ pub(crate) fn perform_all<T: Timetable>(
 ) -> Result<(), AllocError>
     ensures performs_all { OnOk result (Performs (seen (T.meaning station.old.table) station.old) calls.items replies.old.items replies.new.items (seen (T.meaning station.new.table) station.new)) }
 {
-    let mut rest = calls.into_iter();
-    while let Some(call) = rest.next() {
+    for call in calls {
         replies.push(station.perform(heap, call)?)?;
     }
     Ok(())

@@ -1,74 +1,62 @@
 -- Finding and taking out a closed entry.
-use Rattle.std.proofs.Common.{◌≡◌, ℕ, zero, suc, ◌+◌, ◌-◌, ◌<◌, ◌≤◌, true, false, ◌||◌, List, [], ◌∷◌, length, take, set, sym, refl, ap, ◌∙◌, ⊎_elim, arith, length-set, length-take-le, get_or-set_other, get_or-take, get_or-set_same}
-use Rattle.std.specs.List.{remove}
-use Rattle.std.proofs.lemmas.List.Edits.{length-remove, get_or-remove_below, get_or-remove_above}
-use Rattle.std.proofs.lemmas.List.{same_lists, get_or_default}
-use Rattle.std.proofs.lemmas.Bool.{cases_lt, cond-true, cond-false, or_parts}
+use Rattle.std.proofs.Common.{◌≡◌, ℕ, suc, ◌+◌, ◌<◌, ◌≤◌, Bool, true, false, List, [], ◌∷◌, length, Some, None, Option, refl, sym, ap, ◌∙◌, subst, ⊎_elim, arith}
+use Rattle.std.specs.List.{position, position_or_len, remove}
+use Rattle.std.proofs.lemmas.Bool.{cases_lt, cond-true, cond-false, lt-ltb, le-ltb}
 use Rattle.records.specs.declared.kinds.Closure.{Closure}
 use Rattle.timetable.specs.Closed.{closed_in}
-use Rattle.station.specs.Tables.{is_entry, entry_at, without, FirstPlace, Shifted}
+use Rattle.station.specs.Tables.{is_entry, without}
 
--- where no place has it, the entry is not closed
-pub none_closed : (es : List Closure) (k s : ℕ) → ((j : ℕ) → j < length es → is_entry k s (entry_at es j) ≡ false) → closed_in es k s ≡ false
-none_closed [] k s h = refl
-none_closed (e ∷ es) k s h =
-    ap (λ b. b || closed_in es k s) (h 0 (omega arith)) ∙ none_closed es k s (λ j lt. h (suc j) (omega arith))
+-- the first place of the entry, or the end of the list
+abbrev place : List Closure → ℕ → ℕ → ℕ
+place es k s = position_or_len (is_entry k s) es
 
--- what is said of the places after the first
-later : (e : Closure) (es : List Closure) (k s i : ℕ) → FirstPlace (e ∷ es) k s (suc i) → FirstPlace es k s i
-later e es k s i h = record {
-  there = omega (arith, h.there);
-  here = h.here;
-  before = λ j lt. h.before (suc j) (omega arith);
-}
+-- what is taken out there
+abbrev TakenOut : List Closure → ℕ → ℕ → Type 0
+TakenOut es k s = (closed_in es k s ≡ true) × (remove es (place es k s) ≡ without es k s)
 
-pub place_closed : (es : List Closure) (k s i : ℕ) → FirstPlace es k s i → closed_in es k s ≡ true
-place_closed [] k s i h = absurd (omega (arith, h.there))
-place_closed (e ∷ es) k s zero h = ap (λ b. b || closed_in es k s) h.here
-place_closed (e ∷ es) k s (suc i) h =
-    ap (λ b. b || closed_in es k s) (h.before 0 (omega arith)) ∙ place_closed es k s i (later e es k s i h)
+taken_more : (e : Closure) (es : List Closure) (k s : ℕ) (b : Bool) → is_entry k s e ≡ b → (place es k s < length es → TakenOut es k s) → place (e ∷ es) k s < suc (length es) → TakenOut (e ∷ es) k s
+taken_more e es k s true h later low = rw h (refl, refl)
+taken_more e es k s false h later low =
+    let t = later (omega (arith, rw h at low)) in
+    let next : suc (place es k s) ≡ 1 + place es k s = omega arith in
+    rw h (t.0, subst (λ i. remove (e ∷ es) i ≡ e ∷ without es k s) next (ap (λ fs. e ∷ fs) t.1))
 
-pub place_removed : (es : List Closure) (k s i : ℕ) → FirstPlace es k s i → remove es i ≡ without es k s
-place_removed [] k s i h = absurd (omega (arith, h.there))
-place_removed (e ∷ es) k s zero h = sym (cond-true (is_entry k s e) es (e ∷ without es k s) h.here)
-place_removed (e ∷ es) k s (suc i) h =
-    ap (λ fs. e ∷ fs) (place_removed es k s i (later e es k s i h)) ∙ sym (cond-false (is_entry k s e) es (e ∷ without es k s) (h.before 0 (omega arith)))
+taken_out : (es : List Closure) (k s : ℕ) → place es k s < length es → TakenOut es k s
+taken_out [] k s low = absurd (omega arith)
+taken_out (e ∷ es) k s low = taken_more e es k s (is_entry k s e) refl (taken_out es k s) low
 
--- nothing is left out where the entry is not closed
-pub without_none : (es : List Closure) (k s : ℕ) → closed_in es k s ≡ false → es ≡ without es k s
-without_none [] k s h = refl
-without_none (e ∷ es) k s h =
-    let parts = or_parts (is_entry k s e) (closed_in es k s) h in
-    ap (λ fs. e ∷ fs) (without_none es k s parts.1) ∙ sym (cond-false (is_entry k s e) es (e ∷ without es k s) parts.0)
+-- where the entry is not closed, nothing is left out
+abbrev LeftAlone : List Closure → ℕ → ℕ → Type 0
+LeftAlone es k s = (closed_in es k s ≡ false) × (es ≡ without es k s)
 
-pub shifted_none : (es : List Closure) (p : ℕ) → Shifted es p p es
-shifted_none es p = record { long = refl; below = λ k lt. refl; moved = λ k a b. absurd (omega arith); ahead = λ k a. refl }
+left_more : (e : Closure) (es : List Closure) (k s : ℕ) (b : Bool) → is_entry k s e ≡ b → (length es ≤ place es k s → LeftAlone es k s) → suc (length es) ≤ place (e ∷ es) k s → LeftAlone (e ∷ es) k s
+left_more e es k s true h later high = absurd (omega (arith, rw h at high))
+left_more e es k s false h later high =
+    let t = later (omega (arith, rw h at high)) in
+    rw h (t.0, ap (λ fs. e ∷ fs) t.1)
 
--- one more moves up
-pub shifted_more : (es fs : List Closure) (p i : ℕ) → p ≤ i → i < length es → Shifted es p i fs → Shifted es p (i + 1) (set fs i (entry_at fs (i + 1)))
-shifted_more es fs p i le lt h = record {
-  long = length-set fs i _ ∙ h.long;
-  below = λ k a. get_or-set_other fs i k _ _ (omega arith) ∙ h.below k a;
-  moved = λ k a b. ⊎_elim
-      (λ early. get_or-set_other fs i k _ _ (omega arith) ∙ h.moved k a early)
-      (λ late. let e : k ≡ i = omega arith in
-      ap (λ x. entry_at (set fs i (entry_at fs (i + 1))) x) e
-      ∙ get_or-set_same fs i _ _ (omega (arith, h.long))
-      ∙ h.ahead (i + 1) (omega arith)
-      ∙ ap (λ x. entry_at es (x + 1)) (sym e))
-      (cases_lt k i);
-  ahead = λ k a. get_or-set_other fs i k _ _ (omega arith) ∙ h.ahead k (omega arith);
-}
+left_alone : (es : List Closure) (k s : ℕ) → length es ≤ place es k s → LeftAlone es k s
+left_alone [] k s high = (refl, refl)
+left_alone (e ∷ es) k s high = left_more e es k s (is_entry k s e) refl (left_alone es k s) high
 
--- all have moved up
-pub shifted_all : (es fs : List Closure) (p c : ℕ) → p < c → c ≤ length es → Shifted es p (c - 1) fs → take (c - 1) fs ≡ remove (take c es) p
-shifted_all es fs p c lt le h =
-    let whole : length (take c es) ≡ c = length-take-le c es le in
-    let front : length (take (c - 1) fs) ≡ c - 1 = length-take-le (c - 1) fs (omega (arith, h.long)) in
-    let cut = length-remove (take c es) p (omega arith) in
-    same_lists _ _ (omega arith) (λ k d low.
-    let in-fs = get_or-take (c - 1) fs k d (omega arith) ∙ get_or_default fs k d _ (omega (arith, h.long)) in
-    ⊎_elim
-    (λ below. in-fs ∙ h.below k below ∙ get_or_default es k _ d (omega arith) ∙ sym (get_or-remove_below (take c es) p d k below (omega arith) ∙ get_or-take c es k d (omega arith)))
-    (λ above. in-fs ∙ h.moved k above (omega arith) ∙ get_or_default es (k + 1) _ d (omega arith) ∙ sym (get_or-remove_above (take c es) p d k above (omega arith) ∙ get_or-take c es (k + 1) d (omega arith)))
-    (cases_lt k p))
+-- an entry that stands at a place
+pub at_place : (es : List Closure) (k s i : ℕ) → position (is_entry k s) es ≡ Some i → (closed_in es k s ≡ true) × (remove es i ≡ without es k s)
+at_place es k s i h = ⊎_elim
+    (λ low.
+    let found : Some (place es k s) ≡ Some i = sym (cond-true _ _ _ (lt-ltb (place es k s) (length es) low)) ∙ h in
+    let same : place es k s ≡ i = cc in
+    let t = taken_out es k s low in
+    (t.0, ap (λ j. remove es j) (sym same) ∙ t.1))
+    (λ high.
+    let none : ◌≡◌ {A = Option ℕ} None (Some i) = sym (cond-false _ _ _ (le-ltb (place es k s) (length es) high)) ∙ h in
+    let z : ◌≡◌ {A = ℕ} 0 1 = cc in absurd (omega arith))
+    (cases_lt (place es k s) (length es))
+
+-- an entry that stands at none
+pub at_no_place : (es : List Closure) (k s : ℕ) → position (is_entry k s) es ≡ None → LeftAlone es k s
+at_no_place es k s h = ⊎_elim
+    (λ low.
+    let some : ◌≡◌ {A = Option ℕ} (Some (place es k s)) None = sym (cond-true _ _ _ (lt-ltb (place es k s) (length es) low)) ∙ h in
+    let z : ◌≡◌ {A = ℕ} 0 1 = cc in absurd (omega arith))
+    (λ high. left_alone es k s high)
+    (cases_lt (place es k s) (length es))

@@ -31,27 +31,32 @@ pub record Replied : Type 0 where
   pub scratch : List ℕ
   pub list : List ℕ
 
-abbrev pub answered : Answer → Told
-answered (answer.Closed mark e) = slip mark e
-answered answer.Reopened = reopened
-answered answer.Passed = passes
-answered (answer.Found fs) = found (vec_items fs)
-answered (answer.Surveyed p t) = surveyed p t
-answered answer.OnAir = goes_on_air
-answered (answer.Ticked t l) = ticked t (vec_items l)
-answered answer.Withdrawn = withdrawn
-answered (answer.Refused e) = refused (told e)
+-- the answer of a call that is granted
+abbrev pub granted : Answer → Told
+granted (answer.Closed mark e) = slip mark e
+granted answer.Reopened = reopened
+granted answer.Passed = passes
+granted (answer.Found fs) = found (vec_items fs)
+granted (answer.Surveyed p t) = surveyed p t
+granted answer.OnAir = goes_on_air
+granted (answer.Ticked t l) = ticked t (vec_items l)
+granted answer.Withdrawn = withdrawn
+
+-- an answer, or a refusal
+abbrev pub answered : Result Answer Refusal → Told
+answered (Ok a) = granted a
+answered (Err e) = refused (told e)
 
 abbrev pub replied : Reply → Replied
 replied r = record { answer = answered r.answer; scratch = vec_items r.scratch; list = vec_items r.list }
 
 -- what the call returned and the bag then held, as an answer: the findings in their order, or the refusal
-abbrev pub TellsFindings : {E : Type 0} {o : Ghosts Finding} → Result ℕ Refusal → Bag Finding o → Result Answer E → Type 0
+abbrev pub TellsFindings : {E : Type 0} {o : Ghosts Finding} → Result ℕ Refusal → Bag Finding o → Result (Result Answer Refusal) E → Type 0
 TellsFindings (Ok count) bag r = IfOk r (λ a. (xs : List Finding) → Ascending xs → IsPermutation xs (held bag) → answered a ≡ found xs)
 TellsFindings (Err e) bag r = IfOk r (λ a. answered a ≡ refused (told e))
 
 -- what a tick returned and the list then holds, as an answer, with c channels
-abbrev pub TellsTick : ℕ → List ℕ → Result ℕ Refusal → Answer → Type 0
+abbrev pub TellsTick : ℕ → List ℕ → Result ℕ Refusal → Result Answer Refusal → Type 0
 TellsTick c xs (Ok t) a = c ≤ length xs → answered a ≡ ticked t (take c xs)
 TellsTick c xs (Err e) a = answered a ≡ refused (told e)
 

@@ -24,7 +24,7 @@ pub enum Call {
     Withdraw,
 }
 
-// What a call answered.
+// What a call answers that is granted.
 #[derive(Drop)]
 pub enum Answer {
     // The entry is closed; the slip had this mark.
@@ -43,14 +43,12 @@ pub enum Answer {
     Ticked(u32, Vec<u16>),
     // The station is off air.
     Withdrawn,
-    // The call was refused.
-    Refused(Refusal),
 }
 
-// An answer, with the memory that the call was lent as it is afterwards.
+// What a call answered, or why it was refused, with the memory that it was lent as it is afterwards.
 #[derive(Drop)]
 pub struct Reply {
-    pub answer: Answer,
+    pub answer: Result<Answer, Refusal>,
     pub scratch: Vec<u32>,
     pub list: Vec<u16>,
 }

@@ -1,8 +1,10 @@
 ghost use Rattle.std.specs.Prelude.{◌≡◌};
-ghost use Rattle.station.specs.States.{seen, fresh};
+ghost use Rattle.station.specs.States.{seen, fresh, sent_by, on_air};
+ghost use Rattle.timetable.specs.Closed.{aired};
 
 use crate::phase::Phase;
 use crate::table::ClosureTable;
+use timetable::aired::Aired;
 use timetable::interface::Timetable;
 
 mod airing;
@@ -35,5 +37,22 @@ impl<T: Timetable> Station<T> {
             phase: Phase::Open,
             closures: ClosureTable::none(),
         }
+    }
+
+    // What the station sends: its timetable, and silence where an entry is closed.
+    fn sent(&self) -> Aired<'_, T>
+        ensures airs_open_entries { aired (T.meaning result.table.now) result.closed.now ≡ sent_by (seen (T.meaning self.now.table) self.now) }
+        ensures same_table { result.table.now ≡ self.now.table }
+    {
+        Aired {
+            table: &self.table,
+            closed: self.closures.closed(),
+        }
+    }
+
+    fn is_on_air(&self) -> bool
+        ensures by_phase { result ≡ on_air self.now.phase }
+    {
+        matches!(self.phase, Phase::OnAir(_))
     }
 }

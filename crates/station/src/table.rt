@@ -1,14 +1,13 @@
-ghost use Rattle.std.specs.Prelude.{◌≡◌, ◌≤◌, length};
-
+use arrayvec::ArrayVec;
 use records::kinds::Closure;
 
 mod calls;
 
-// The closed entries of a station, at most 64, in the order in which they were closed.
-#[derive(Clone, Copy)]
+// The most entries that a station keeps closed.
+const MOST_CLOSED: usize = 64;
+
+// The closed entries of a station, in the order in which they were closed.
+#[derive(Drop)]
 pub struct ClosureTable {
-    entries: [Closure; 64],
-    count: usize,
-    ghost long: { length entries ≡ 64 },
-    ghost fits: { count ≤ 64 },
+    entries: ArrayVec<Closure, MOST_CLOSED>,
 }

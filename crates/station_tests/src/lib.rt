@@ -26,12 +26,7 @@ mod tests {
     }
 
     fn all_zero(cells: &[u32]) -> bool {
-        for cell in cells {
-            if *cell != 0 {
-                return false;
-            }
-        }
-        true
+        cells.iter().all(|cell| *cell == 0)
     }
 
     // Closes an entry and keeps the slip.
@@ -43,13 +38,10 @@ mod tests {
 
     // Opens an entry again; a slip that is refused is kept.
     fn reopening(station: &mut Station<Grid>, slip: Slip) -> Result<(), Refusal> {
-        match station.reopen(slip) {
-            Ok(()) => Ok(()),
-            Err((refusal, back)) => {
-                back.keep();
-                Err(refusal)
-            }
-        }
+        station.reopen(slip).map_err(|(refusal, back)| {
+            back.keep();
+            refusal
+        })
     }
 
     // The slip that a station hands back because it is another's, or because its entry is not closed.

@@ -7,7 +7,6 @@ ghost use Rattle.station.specs.States.{seen, Is, airs, ticks, withdraws, goes_on
 use super::Station;
 use crate::phase::Phase;
 use crate::refusal::Refusal;
-use timetable::aired::Aired;
 use timetable::interface::Timetable;
 
 // The slot at which the clock ends: it is not sent any more.
@@ -18,8 +17,8 @@ fn write_line<T: Timetable>(table: &T, slot: u32, list: &mut [u16])
     requires room { (T.meaning table.now).channels ≤ length list.old }
     ensures line_in_front { list.new ≡ line (T.meaning table.now) slot ++ drop (T.meaning table.now).channels list.old }
 {
-    for place in 0..table.channels() {
-        list[place as usize] = table.page_at(place + 1, slot);
+    for channel in 1..=table.channels() {
+        list[usize::from(channel) - 1] = table.page_at(channel, slot);
     }
 }
 
@@ -46,17 +45,13 @@ impl<T: Timetable> Station<T> {
         let Phase::OnAir(clock) = self.phase else {
             return Err(Refusal::NotOnAir);
         };
-        if list.len() < self.table.channels() as usize {
+        if list.len() < usize::from(self.table.channels()) {
             return Err(Refusal::ShortList);
         }
         if clock >= LAST_SLOT {
             return Err(Refusal::ClockFull);
         }
-        let sent = Aired {
-            table: &self.table,
-            closed: self.closures.closed(),
-        };
-        write_line(&sent, clock, list);
+        write_line(&self.sent(), clock, list);
         self.phase = Phase::OnAir(clock + 1);
         Ok(clock)
     }
@@ -65,12 +60,10 @@ impl<T: Timetable> Station<T> {
     pub fn withdraw(&mut self) -> Result<(), Refusal>
         ensures withdraws_or_refuses { Is (withdraws (seen (T.meaning self.old.table) self.old)) (by_unit withdrawn result) (seen (T.meaning self.new.table) self.new) }
     {
-        match self.phase {
-            Phase::OnAir(_) => {
-                self.phase = Phase::Open;
-                Ok(())
-            }
-            _ => Err(Refusal::NotOnAir),
+        if !self.is_on_air() {
+            return Err(Refusal::NotOnAir);
         }
+        self.phase = Phase::Open;
+        Ok(())
     }
 }

@@ -9,7 +9,6 @@ use crate::refusal::*;
 use bag::bag::Bag;
 use bag::finding::Finding;
 use scratch::Scratch;
-use timetable::aired::Aired;
 use timetable::interface::Timetable;
 
 impl<T: Timetable> Station<T> {
@@ -19,14 +18,10 @@ impl<T: Timetable> Station<T> {
         ensures scratch_zeroed { scratch.new ≡ replicate (length scratch.old) 0 }
     {
         let guard = Scratch { cells: scratch };
-        if let Phase::OnAir(_) = self.phase {
+        if self.is_on_air() {
             return Err(Refusal::OnAir);
         }
-        let sent = Aired {
-            table: &self.table,
-            closed: self.closures.closed(),
-        };
-        checker::checking::check(&sent, self.delay, self.pages, guard.cells)?;
+        checker::checking::check(&self.sent(), self.delay, self.pages, guard.cells)?;
         self.phase = Phase::Passed;
         Ok(())
     }
@@ -37,11 +32,7 @@ impl<T: Timetable> Station<T> {
         ensures same_memory { SameMemory bag.old bag.new }
         ensures scratch_zeroed { scratch.new ≡ replicate (length scratch.old) 0 }
     {
-        let sent = Aired {
-            table: &self.table,
-            closed: self.closures.closed(),
-        };
-        Ok(checker::findings::findings(&sent, self.delay, self.pages, scratch, bag)?)
+        Ok(checker::findings::findings(&self.sent(), self.delay, self.pages, scratch, bag)?)
     }
 
     // The greatest peak of a receiver with room for the whole film, over all tune-ins, and the first slot that reaches it.
@@ -53,10 +44,6 @@ impl<T: Timetable> Station<T> {
         if let Phase::Open = self.phase {
             return Err(Refusal::NotPassed);
         }
-        let sent = Aired {
-            table: &self.table,
-            closed: self.closures.closed(),
-        };
-        Ok(survey::survey(&sent, self.delay, self.pages, guard.cells)?)
+        Ok(survey::survey(&self.sent(), self.delay, self.pages, guard.cells)?)
     }
 }

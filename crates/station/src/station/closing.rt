@@ -10,26 +10,22 @@ use records::kinds::Closure;
 use timetable::aired::is_closed;
 use timetable::interface::Timetable;
 
-// The most entries that a station keeps closed.
-const MOST_CLOSED: usize = 64;
-
 impl<T: Timetable> Station<T> {
     // Closes the entry of a channel in a slot of the period; the station is open then. The slip is its word for it.
     pub fn close(&mut self, channel: u8, slot: u32) -> Result<Slip, Refusal>
         ensures closes_or_refuses { Is (closes (seen (T.meaning self.old.table) self.old) (record { channel = channel; slot = slot })) (by_close result) (seen (T.meaning self.new.table) self.new) }
         ensures slip_unspent { IfOk result (λ slip. slip.spent ≡ false) }
     {
-        if let Phase::OnAir(_) = self.phase {
+        if self.is_on_air() {
             return Err(Refusal::OnAir);
         }
         if channel < 1 || channel > self.table.channels() || slot >= self.table.period() {
             return Err(Refusal::NoEntry);
         }
-        let closed = self.closures.closed();
-        if is_closed(closed, channel, slot) {
+        if is_closed(self.closures.closed(), channel, slot) {
             return Err(Refusal::ClosedAlready);
         }
-        if closed.len() >= MOST_CLOSED {
+        if self.closures.is_full() {
             return Err(Refusal::TableFull);
         }
         let entry = Closure { channel, slot };
@@ -47,13 +43,13 @@ impl<T: Timetable> Station<T> {
         ensures reopens_or_refuses { Is (reopens (seen (T.meaning self.old.table) self.old) slip.mark slip.entry) (by_reopen result) (seen (T.meaning self.new.table) self.new) }
         ensures hands_back { IfErr result (λ e. e.1 ≡ slip) }
     {
-        if let Phase::OnAir(_) = self.phase {
+        if self.is_on_air() {
             return Err((Refusal::OnAir, slip));
         }
         if slip.mark != self.mark {
             return Err((Refusal::OtherSlip, slip));
         }
-        if !self.closures.remove(slip.entry.channel, slip.entry.slot) {
+        if !self.closures.remove(slip.entry) {
             return Err((Refusal::OtherSlip, slip));
         }
         self.phase = Phase::Open;

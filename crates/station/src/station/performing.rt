@@ -1,6 +1,6 @@
 // Any of the calls, as a value, and its reply.
-ghost use Rattle.std.specs.Prelude.{◌≡◌, [], IfOk, vec_len, MatchResult};
-ghost use Rattle.station.specs.Calls.{Does, replied, answered, TellsFindings, TellsTick};
+ghost use Rattle.std.specs.Prelude.{◌≡◌, ◌≤◌, [], length, take, IfOk, vec_len, MatchResult};
+ghost use Rattle.station.specs.Calls.{Does, replied, answered, granted, TellsFindings, TellsTick};
 ghost use Rattle.station.specs.States.{seen, by_close, by_reopen, by_survey, by_unit, passed};
 ghost use Rattle.station.specs.declared.call.Call.TheVariants.{Close as CloseCall, Reopen as ReopenCall, Check as CheckCall, Findings as FindingsCall, Survey as SurveyCall, Air as AirCall, Tick as TickCall, Withdraw as WithdrawCall};
 
@@ -17,49 +17,39 @@ use std::alloc::{AllocError, Global};
 use timetable::interface::Timetable;
 
 // The answer of a call that answers nothing else where it is granted.
-fn unit_answer(res: Result<(), Refusal>, granted: Answer) -> Answer
-    ensures tells_result { answered result ≡ by_unit (answered granted) res }
+fn unit_answer(res: Result<(), Refusal>, answer: Answer) -> Result<Answer, Refusal>
+    ensures tells_result { answered result ≡ by_unit (granted answer) res }
 {
-    match res {
-        Ok(()) => granted,
-        Err(refusal) => Answer::Refused(refusal),
-    }
+    res.map(|()| answer)
 }
 
 // The answer of closing; the slip is kept.
-fn close_answer(res: Result<Slip, Refusal>) -> Answer
+fn close_answer(res: Result<Slip, Refusal>) -> Result<Answer, Refusal>
     ensures tells_result { answered result ≡ by_close res }
 {
-    match res {
-        Ok(slip) => {
-            let answer = Answer::Closed(slip.mark, slip.entry);
-            slip.keep();
-            answer
-        }
-        Err(refusal) => Answer::Refused(refusal),
-    }
+    let slip = res?;
+    let answer = Answer::Closed(slip.mark, slip.entry);
+    slip.keep();
+    Ok(answer)
 }
 
 // The answer of opening again; a slip that is handed back is kept.
-fn reopen_answer(res: Result<(), (Refusal, Slip)>) -> Answer
+fn reopen_answer(res: Result<(), (Refusal, Slip)>) -> Result<Answer, Refusal>
     ensures tells_result { answered result ≡ by_reopen res }
 {
     match res {
-        Ok(()) => Answer::Reopened,
+        Ok(()) => Ok(Answer::Reopened),
         Err((refusal, slip)) => {
             slip.keep();
-            Answer::Refused(refusal)
+            Err(refusal)
         }
     }
 }
 
-fn survey_answer(res: Result<(u16, u32), Refusal>) -> Answer
+fn survey_answer(res: Result<(u16, u32), Refusal>) -> Result<Answer, Refusal>
     ensures tells_result { answered result ≡ by_survey res }
 {
-    match res {
-        Ok((peak, slot)) => Answer::Surveyed(peak, slot),
-        Err(refusal) => Answer::Refused(refusal),
-    }
+    res.map(|(peak, slot)| Answer::Surveyed(peak, slot))
 }
 
 // The answer of the findings, which are taken out of the bag in order.
@@ -67,34 +57,37 @@ fn findings_answer(
     heap: Global,
     res: Result<usize, Refusal>,
     bag: &mut Bag<Finding>,
-) -> Result<Answer, AllocError>
+) -> Result<Result<Answer, Refusal>, AllocError>
     ensures tells_result { TellsFindings res bag.old result }
 {
-    match res {
-        Ok(_) => Ok(Answer::Found(take_all(heap, bag, 0)?)),
-        Err(refusal) => Ok(Answer::Refused(refusal)),
+    let findings = take_all(heap, bag, 0)?;
+    Ok(res.map(|_| Answer::Found(findings)))
+}
+
+// Copies the first places of the list, if it has as many as the line.
+fn copy_line(line: &mut [u16], list: &[u16])
+    ensures from_list { length line.old ≤ length list.now → line.new ≡ take (length line.old) list.now }
+{
+    if line.len() <= list.len() {
+        line.copy_from_slice(&list[..line.len()]);
     }
 }
 
 // The answer of a tick: what it wrote into the first places of the list goes into the line, which has a place for each channel.
-fn tick_answer(res: Result<u32, Refusal>, line: Vec<u16>, list: &[u16]) -> Answer
+fn tick_answer(
+    res: Result<u32, Refusal>,
+    mut line: Vec<u16>,
+    list: &[u16],
+) -> Result<Answer, Refusal>
     ensures tells_result { TellsTick (vec_len line) list.now res result }
 {
-    match res {
-        Ok(clock) => {
-            let mut sent = line;
-            let channels = sent.len();
-            if channels <= list.len() {
-                sent.as_mut_slice().copy_from_slice(&list[0..channels]);
-            }
-            Answer::Ticked(clock, sent)
-        }
-        Err(refusal) => Answer::Refused(refusal),
-    }
+    let clock = res?;
+    copy_line(line.as_mut_slice(), list);
+    Ok(Answer::Ticked(clock, line))
 }
 
 // A reply to a call that was lent no memory.
-fn bare(heap: Global, answer: Answer) -> Reply
+fn bare(heap: Global, answer: Result<Answer, Refusal>) -> Reply
     ensures nothing_lent { replied result ≡ record { answer = answered answer; scratch = []; list = [] } }
 {
     Reply {
@@ -124,14 +117,13 @@ impl<T: Timetable> Station<T> {
         bare(heap, reopen_answer(result))
     }
 
-    fn reply_to_check(&mut self, heap: Global, scratch: Vec<u32>) -> Reply
+    fn reply_to_check(&mut self, heap: Global, mut scratch: Vec<u32>) -> Reply
         ensures does { Does (seen (T.meaning self.old.table) self.old) (CheckCall scratch) (replied result) (seen (T.meaning self.new.table) self.new) }
     {
-        let mut cells = scratch;
-        let result = self.check(cells.as_mut_slice());
+        let result = self.check(scratch.as_mut_slice());
         Reply {
             answer: unit_answer(result, Answer::Passed),
-            scratch: cells,
+            scratch,
             list: Vec::new(heap),
         }
     }
@@ -139,30 +131,28 @@ impl<T: Timetable> Station<T> {
     fn reply_to_findings(
         &self,
         heap: Global,
-        scratch: Vec<u32>,
+        mut scratch: Vec<u32>,
         places: usize,
     ) -> Result<Reply, AllocError>
         ensures does { IfOk result (λ reply. Does (seen (T.meaning self.now.table) self.now) (FindingsCall scratch places) (replied reply) (seen (T.meaning self.now.table) self.now)) }
     {
-        let mut cells = scratch;
         let mut records = Vec::from_elem(heap, Finding { page: 0, slot: 0 }, places)?;
         let mut bag = Bag::over(records.as_mut_slice());
-        let result = self.findings(cells.as_mut_slice(), &mut bag);
+        let result = self.findings(scratch.as_mut_slice(), &mut bag);
         Ok(Reply {
             answer: findings_answer(heap, result, &mut bag)?,
-            scratch: cells,
+            scratch,
             list: Vec::new(heap),
         })
     }
 
-    fn reply_to_survey(&self, heap: Global, scratch: Vec<u32>) -> Reply
+    fn reply_to_survey(&self, heap: Global, mut scratch: Vec<u32>) -> Reply
         ensures does { Does (seen (T.meaning self.now.table) self.now) (SurveyCall scratch) (replied result) (seen (T.meaning self.now.table) self.now) }
     {
-        let mut cells = scratch;
-        let result = self.survey(cells.as_mut_slice());
+        let result = self.survey(scratch.as_mut_slice());
         Reply {
             answer: survey_answer(result),
-            scratch: cells,
+            scratch,
             list: Vec::new(heap),
         }
     }
@@ -182,16 +172,15 @@ impl<T: Timetable> Station<T> {
     }
 
     // The line that was sent is handed back by itself too.
-    fn reply_to_tick(&mut self, heap: Global, list: Vec<u16>) -> Result<Reply, AllocError>
+    fn reply_to_tick(&mut self, heap: Global, mut list: Vec<u16>) -> Result<Reply, AllocError>
         ensures does { MatchResult result (λ reply. Does (seen (T.meaning self.old.table) self.old) (TickCall list) (replied reply) (seen (T.meaning self.new.table) self.new)) (λ _. seen (T.meaning self.new.table) self.new ≡ seen (T.meaning self.old.table) self.old) }
     {
-        let mut places = list;
-        let line = Vec::from_elem(heap, 0u16, self.table.channels() as usize)?;
-        let result = self.tick(places.as_mut_slice());
+        let line = Vec::from_elem(heap, 0u16, usize::from(self.table.channels()))?;
+        let result = self.tick(list.as_mut_slice());
         Ok(Reply {
-            answer: tick_answer(result, line, places.as_slice()),
+            answer: tick_answer(result, line, list.as_slice()),
             scratch: Vec::new(heap),
-            list: places,
+            list,
         })
     }
 
@@ -215,9 +204,6 @@ impl<T: Timetable> Station<T> {
     pub fn is_passed(&self) -> bool
         ensures by_phase { result ≡ passed self.now.phase }
     {
-        match self.phase {
-            Phase::Passed => true,
-            _ => false,
-        }
+        self.phase == Phase::Passed
     }
 }

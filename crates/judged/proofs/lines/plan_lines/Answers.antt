@@ -3,7 +3,7 @@ use Rattle.records.specs.declared.kinds.Closure.{Closure}
 use Rattle.timetable.specs.Closed.{aired}
 use Rattle.timetable.specs.Windows.{InRange}
 use Rattle.judging.specs.Judgements.{Bookable, Judgement}
-use Rattle.judging.specs.declared.line.Line.TheVariants.{Film, Period, Wait}
+use Rattle.line.specs.declared.Line.TheVariants.{Film, Period, Wait}
 use Rattle.schedule.specs.Schedules.{meant}
 use Rattle.judged.proofs.Ranges.{loaded_in_range, loaded_bookable}
 use Rattle.judged.proofs.lines.plan_lines.Goals as goal

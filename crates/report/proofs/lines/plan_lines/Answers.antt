@@ -1,5 +1,5 @@
 use Rattle.std.proofs.Common.{◌≡◌, [], ◌∷◌, vec_items, ap, ◌∙◌}
-use Rattle.report.specs.declared.line.Line.TheVariants.{Film, Period, Wait}
+use Rattle.line.specs.declared.Line.TheVariants.{Film, Period, Wait}
 use Rattle.report.proofs.lines.plan_lines.Goals as goal
 
 pub returns : goal.returns

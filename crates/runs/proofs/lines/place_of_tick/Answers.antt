@@ -5,25 +5,22 @@ use Rattle.runs.proofs.Sending.{place_other, place_later, place_here, told_end}
 use Rattle.runs.proofs.lines.place_of_tick.Goals as goal
 use Rattle.runs.proofs.lines.place_of_tick.Goals.{then-is_tick+else-left-eq0, else-is_tick}
 
-pub returns-then-left-eq0 : goal.returns-then-left-eq0
-returns-then-left-eq0 c = record {
-  feeds_from = place_here c.args.replies.now c.loop-i.i _ c.loop-i-test.true c.args.tick c.loop-i.left c.loop-i.invariant c.if-left-eq0.true c.if-is_tick.ensures.of_tick;
-}
+pub returns-then-left-eq0-clause-feeds_from : goal.returns-then-left-eq0-clause-feeds_from
+returns-then-left-eq0-clause-feeds_from c =
+    place_here c.args.replies.now c.loop-place.place c.index-replies-place.result c.loop-place-test.true c.index-replies-place.is c.args.tick c.loop-place.left c.loop-place.invariant c.if-left-eq0.true c.if-is_tick.ensures.of_tick
 
-pub loop-i-preserved : goal.loop-i-preserved
-loop-i-preserved c = elim c.if-is_tick.branch [
+pub loop-place-preserved : goal.loop-place-preserved
+loop-place-preserved c = elim c.if-is_tick.branch [
   | then-is_tick+else-left-eq0 w ↦
-      let more : c.loop-i.left ≡ suc c.if-is_tick.left = omega (arith, w.left-is, w.if-left-eq0.false) in
-      place_later c.args.replies.now c.loop-i.i _ c.loop-i-test.true c.args.tick c.loop-i.left c.loop-i.invariant c.if-is_tick.left more w.if-is_tick.ensures.of_tick
+      let more : c.loop-place.left ≡ suc c.if-is_tick.left = omega (arith, w.left-is, w.if-left-eq0.false) in
+      place_later c.args.replies.now c.loop-place.place c.index-replies-place.result c.loop-place-test.true c.index-replies-place.is c.args.tick c.loop-place.left c.loop-place.invariant c.if-is_tick.left more w.if-is_tick.ensures.of_tick
   | else-is_tick w ↦
-      place_other c.args.replies.now c.loop-i.i _ c.loop-i-test.true c.args.tick c.loop-i.left c.loop-i.invariant w.if-is_tick.ensures.of_tick
-      ∙ ap (λ k. lines_from k (drop (c.loop-i.i + 1) (told_of c.args.replies.now))) (sym w.left-is)
+      place_other c.args.replies.now c.loop-place.place c.index-replies-place.result c.loop-place-test.true c.index-replies-place.is c.args.tick c.loop-place.left c.loop-place.invariant w.if-is_tick.ensures.of_tick
+      ∙ ap (λ k. lines_from k (told_of (drop (c.loop-place.place + 1) c.args.replies.now))) (sym w.left-is)
 ]
 
-pub returns : goal.returns
-returns c = record {
-  feeds_from =
-      c.loop-i.invariant
-      ∙ ap (λ ts. lines_from c.loop-i.left ts) (told_end c.args.replies.now c.loop-i.i (omega arith))
-      ∙ sym (ap (λ ts. until_withdrawn ts) (told_end c.args.replies.now _ (omega arith)));
-}
+pub returns-clause-feeds_from : goal.returns-clause-feeds_from
+returns-clause-feeds_from c =
+    c.loop-place.invariant
+    ∙ ap (λ ts. lines_from c.loop-place.left ts) (told_end c.args.replies.now c.loop-place.place (omega arith))
+    ∙ sym (ap (λ ts. until_withdrawn ts) (told_end c.args.replies.now _ (omega arith)))

@@ -1,4 +1,4 @@
-use Rattle.std.proofs.Common.{◌≡◌, length, vec_items, sym, ap, ◌∙◌, subst}
+use Rattle.std.proofs.Common.{◌≡◌, length, vec_items, sym, ap, ◌∙◌, subst, arith}
 use Rattle.std.specs.Vec.{with_items}
 use Rattle.std.proofs.lemmas.List.{with_items_is}
 use Rattle.station.specs.States.{seen, Is, ticks, by_tick}
@@ -16,7 +16,7 @@ returns g c =
     let r = c.tick-result.result in
     let items : vec_items (with_items v xs) ≡ xs = with_items_is v xs (c.tick-result.auto.list ∙ c.as_mut_slice.ensures.len) in
     let ticks-it = subst (λ ys. Is (ticks s (length ys)) (by_tick M.channels xs r) s') c.as_mut_slice.ensures.value c.tick-result.ensures.ticks_or_refuses in
-    let line : c.in_ok-line.line.len ≡ M.channels = c.in_ok-line.ensures.len ∙ c.channels.ensures.answers_channels in
+    let line : c.in_ok-line.line.len ≡ M.channels = omega (arith, c.in_ok-line.ensures.len, c.channels.ensures.answers_channels) in
     let long : length xs ≡ length (vec_items v) = c.tick-result.auto.list ∙ ap length c.as_mut_slice.ensures.value in
     let tells = subst (λ ys. TellsTick c.in_ok-line.line.len ys r c.tick_answer.result) (c.as_slice.ensures.value ∙ items) c.tick_answer.ensures.tells_result in
     let told = tick_told_as s s' (length (vec_items v)) c.in_ok-line.line.len xs r c.tick_answer.result line long ticks-it tells in

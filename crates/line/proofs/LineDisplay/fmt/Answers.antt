@@ -1,4 +1,4 @@
-use Rattle.judging.proofs.line.LineDisplay.fmt.Goals as goal
+use Rattle.line.proofs.LineDisplay.fmt.Goals as goal
 
 pub returns-in-Stray-clause-writes : goal.returns-in-Stray-clause-writes
 returns-in-Stray-clause-writes g c = rw c.in-Stray.is c.write-in-Stray.ensures.writes
