@@ -1,12 +1,9 @@
 -- Bags over the same places.
-use Rattle.std.proofs.Common.{◌≤◌, length, refl, ◌∙◌, arith}
+use Rattle.std.proofs.Common.{◌≤◌, length, ◌∙◌, arith}
 use Rattle.std.proofs.lemmas.List.{length-take}
 use Rattle.bag.specs.Bags.{held, room, SameMemory}
 use Rattle.bag.specs.declared.bag.Bag.{Bag}
 use Rattle.bag.specs.declared.ranked.Ranked.{Ghosts}
-
-pub same_memory_refl : {X : Type 0} {g : Ghosts X} (a : Bag X g) → SameMemory a a
-same_memory_refl a = record { same_room = refl; same_lender = refl }
 
 pub same_memory_trans : {X : Type 0} {g : Ghosts X} (a b c : Bag X g) → SameMemory a b → SameMemory b c → SameMemory a c
 same_memory_trans a b c h i = record {

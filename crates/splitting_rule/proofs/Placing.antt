@@ -1,39 +1,20 @@
 -- One page more, in the rule and in the bag.
-use Rattle.std.proofs.Common.{◌≡◌, ℕ, zero, suc, ◌+◌, ◌<◌, ◌⊎◌, List, [], ◌∷◌, ◌++◌, length, get_or, set, All, sym, refl, subst, inl, inr, add-one, arith, get_or-set_other, get_or-set_same}
+use Rattle.std.proofs.Common.{◌≡◌, ℕ, zero, suc, ◌+◌, ◌<◌, ◌⊎◌, List, [], ◌∷◌, ◌++◌, length, get_or, set, All, sym, subst, inl, inr, add-one, arith, get_or-set_other, get_or-set_same}
 use Rattle.std.specs.List.Sorted.{IsPermutation}
 use Rattle.std.proofs.lemmas.List.{get_or_append_left, get_or_push}
 use Rattle.std.proofs.lemmas.List.Elements.{All-head}
 use Rattle.std.proofs.lemmas.List.Sorted.{All-permutation, IsPermutation-trans}
 use Rattle.records.specs.declared.kinds.Row.{Row}
-use Rattle.bag.specs.Bags.{held, room, Takes}
+use Rattle.bag.specs.Bags.{held, Takes}
 use Rattle.bag.specs.declared.bag.Bag.{Bag}
 use Rattle.bag.specs.declared.ranked.Ranked.{Ghosts}
-use Rattle.bag.proofs.Memory.{held_within}
-use Rattle.splitting_rule.specs.Rule.{Chosen, Placed, Crowded, Splits, Refuses, rest_of, row_of}
+use Rattle.splitting_rule.specs.Rule.{Placed, Crowded, Splits, Refuses}
 use Rattle.sequences.specs.Sequences.{Usable, earlier}
 use Rattle.sequences.specs.declared.sequence.FreeSequence.{FreeSequence}
 
-module _ {g : Ghosts FreeSequence} (w : ℕ) (s : FreeSequence) (a b : Bag FreeSequence g) (taken : Takes (earlier w) s a b) where
-  chosen : Chosen w (held a) s (held b)
-  chosen = record { out = taken.one_less; first = taken.first }
-
-  pub taken_usable : All (Usable w) (held a) → Usable w s
-  taken_usable usable = All-head (Usable w) s (held b) (All-permutation (Usable w) (held a) (s ∷ held b) taken.one_less usable)
-
-  -- the sequence is taken out of a, and the rest of it is put into b
-  pub placed : (page : ℕ) (c : Bag FreeSequence g) → room c ≡ room a → IsPermutation (rest_of w s ++ held b) (held c) → Placed page w (room a) (held a) (row_of page w s) (held c)
-  placed page c same cut = record {
-    s = s;
-    others = held b;
-    chosen = chosen;
-    is = refl;
-    cut = cut;
-    fits = omega (arith, held_within c, same);
-  }
-
-  -- or there is no room for it
-  pub crowded : room b ≡ room a → room b < length (rest_of w s ++ held b) → Crowded w (room a) (held a)
-  crowded same full = record { s = s; others = held b; chosen = chosen; too_many = omega (arith, same, full) }
+-- a sequence that is taken out of a bag whose sequences are all usable
+pub taken_usable : {g : Ghosts FreeSequence} (w : ℕ) (s : FreeSequence) (a b : Bag FreeSequence g) → Takes (earlier w) s a b → All (Usable w) (held a) → Usable w s
+taken_usable w s a b taken usable = All-head (Usable w) s (held b) (All-permutation (Usable w) (held a) (s ∷ held b) taken.one_less usable)
 
 -- only the first n rows matter
 pub splits_kept : (m most : ℕ) (free : List FreeSequence) (n : ℕ) (rows rows' : List Row) (left : List FreeSequence) → ((k : ℕ) (d : Row) → k < n → get_or rows' k d ≡ get_or rows k d) → Splits m most free n rows left → Splits m most free n rows' left
