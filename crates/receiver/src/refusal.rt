@@ -20,6 +20,7 @@ pub enum Refusal {
 
 impl Refusal {
     // The number of the refusal.
+    // Kept so: the rules give each refusal a number, and some tell values beside it.
     pub fn number(&self) -> u8
         ensures is_told { result ≡ (told self.now).0 }
     {

@@ -12,6 +12,7 @@ pub enum SurveyRefusal {
 
 impl SurveyRefusal {
     // The number of the refusal.
+    // Kept so: the rules give each refusal a number.
     pub fn number(&self) -> u8
         ensures is_told { result ≡ (told self.now).0 }
     {
