@@ -99,7 +99,7 @@ mod tests {
         );
     }
 
-    fn begins(plan: &Rows, channel: u8, pages: &[u16]) -> bool {
+    fn begins(plan: &Rows<&[Row]>, channel: u8, pages: &[u16]) -> bool {
         let mut slot = 0;
         for page in pages {
             if plan.page_at(channel, slot) != *page {
