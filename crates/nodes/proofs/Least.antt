@@ -1,18 +1,15 @@
 -- What is computed as the period of a tree is what its name says.
-use Rattle.std.proofs.Common.{◌≡◌, ℕ, ◌+◌, ◌-◌, ◌<◌, List, length, get_or, take, drop, Some, Ok, Err, Result, sym, ap, ◌∙◌, subst, arith}
-use Rattle.std.proofs.lemmas.List.Elements.{All-get_or, All-take}
+use Rattle.std.proofs.Common.{◌≡◌, ℕ, ◌+◌, ◌<◌, List, length, get_or, take, drop, Ok, Err, Result, sym, ap, ◌∙◌, subst, arith}
 use Rattle.records.specs.declared.kinds.Node.{Node}
 use Rattle.numbers.specs.Computed.{lcm_of_all}
 use Rattle.numbers.specs.Divisors.{LeastCommonMultipleOfAll}
 use Rattle.numbers.proofs.All.{lcm_of_all_is}
-use Rattle.plans.specs.Periods.{longest_period}
 use Rattle.plans.specs.declared.refusal.Refusal.{Refusal}
-use Rattle.nodes.specs.Answers.{AllRight, Askable, Planned, PeriodAnswer, PeriodLeast}
-use Rattle.nodes.specs.Finding.{AllPeriods, Within, period_in}
-use Rattle.nodes.specs.Periods.{PeriodsOf, LeastPeriod, period_of, periods_from, node_periods, tree_period}
+use Rattle.nodes.specs.Answers.{AllRight, Planned, PeriodAnswer, PeriodLeast}
+use Rattle.nodes.specs.Finding.{period_in}
+use Rattle.nodes.specs.Periods.{PeriodsOf, LeastPeriod, period_of, periods_from, node_periods}
 use Rattle.nodes.specs.Turns.{node_at}
 use Rattle.nodes.proofs.Known.{periods_later, length_periods, period_at, period_in_is}
-use Rattle.nodes.proofs.Together.{IsPeriod}
 
 module _ (nodes : List Node) (right : AllRight nodes) where
   -- a node's period, from those of all nodes
@@ -31,28 +28,6 @@ module _ (nodes : List Node) (right : AllRight nodes) where
       lcm_of_all_is _,
       period_among x h ∙ ap (λ (n : Node). period_in n (node_periods nodes)) e,
     );
-  }
-
--- the periods of the roots, as the code has them: k is c
-module _ (nodes : List Node) (ps qs : List ℕ) (k c : ℕ) (known : ps ≡ node_periods nodes) (same : qs ≡ ps) (all : AllPeriods ps) (count : k ≡ c) where
-  roots_are : lcm_of_all (take (k - 0) qs) ≡ tree_period nodes c
-  roots_are = let e : k - 0 ≡ c = omega arith in rw (e, same, known)
-
-  pub roots_periods : AllPeriods (take (k - 0) qs)
-  roots_periods = All-take IsPeriod (k - 0) qs (subst AllPeriods (sym same) all)
-
-  pub roots_long : longest_period < lcm_of_all (take (k - 0) qs) → longest_period < tree_period nodes c
-  roots_long long = subst (λ (l : ℕ). longest_period < l) roots_are long
-
-  pub planned : (p : ℕ) → Askable (length nodes) c → AllRight nodes → Within (lcm_of_all (take (k - 0) qs)) (Some p) → Planned nodes c p
-  planned p askable right h = record {
-    askable = askable;
-    right = right;
-    nodes_short = λ x inside.
-        (All-get_or IsPeriod (node_periods nodes) x 0 (omega (arith, inside, length_periods 0 nodes)) (subst AllPeriods known all)).1;
-    period = h.0 ∙ roots_are;
-    short = h.1;
-    some = h.2;
   }
 
 least_period : (nodes : List Node) (c p : ℕ) → Planned nodes c p → LeastPeriod nodes c p

@@ -33,36 +33,47 @@ mod tests {
         })
     }
 
-    // The pages that a pagoda plan deals, or the number of its refusal, with 10,000 added.
-    fn dealt(heap: Global, delay: u16, counts: &[u8]) -> Result<u16, Fail> {
+    // The pages that a pagoda plan deals, or its refusal.
+    fn dealt(heap: Global, delay: u16, counts: &[u8]) -> Result<Result<u16, Refusal>, Fail> {
         let mut channels = Vec::new(heap);
         for count in counts {
             channels.push(Channel {
                 subchannels: *count,
             })?;
         }
-        match Pagoda::plan(heap, delay, channels.as_slice()) {
-            Ok(plan) => Ok(plan.pages()),
-            Err(refusal) => Ok(10_000 + u16::from(refusal.number().unwrap_or(0))),
-        }
+        Ok(Pagoda::plan(heap, delay, channels.as_slice()).map(|plan| plan.pages()))
     }
 
     #[test]
     fn pagoda_at_the_edges(rt: HostRuntime) -> Result<(), Fail> {
         let heap = rt.alloc();
-        assert_eq!(rt; dealt(heap, 3, &[3])?, 3);
-        assert_eq!(rt; dealt(heap, 3, &[4])?, 10_002);
-        assert_eq!(rt; dealt(heap, 1024, &[1])?, 1024);
-        assert_eq!(rt; dealt(heap, 1024, &[1, 1])?, 10_003);
-        assert_eq!(rt; dealt(heap, 100, &[10])?, 10_004);
-        assert_eq!(rt; dealt(heap, 0, &[1])?, 10_001);
-        assert_eq!(rt; dealt(heap, 1025, &[1])?, 10_001);
-        assert_eq!(rt; dealt(heap, 1, &[])?, 10_001);
-        assert_eq!(rt; dealt(heap, 1, &[1; 8])?, 255);
-        assert_eq!(rt; dealt(heap, 1, &[1; 9])?, 10_001);
-        assert_eq!(rt; dealt(heap, 33, &[33])?, 10_002);
-        assert_eq!(rt; dealt(heap, 1, &[0])?, 10_002);
+        assert_eq!(rt; dealt(heap, 3, &[3])?, Ok(3));
+        assert_eq!(rt; dealt(heap, 3, &[4])?, Err(Refusal::WrongSubchannels));
+        assert_eq!(rt; dealt(heap, 1024, &[1])?, Ok(1024));
+        assert_eq!(rt; dealt(heap, 1024, &[1, 1])?, Err(Refusal::TooManyPages));
+        assert_eq!(rt; dealt(heap, 100, &[10])?, Err(Refusal::PeriodTooLong));
+        assert_eq!(rt; dealt(heap, 0, &[1])?, Err(Refusal::OutOfRange));
+        assert_eq!(rt; dealt(heap, 1025, &[1])?, Err(Refusal::OutOfRange));
+        assert_eq!(rt; dealt(heap, 1, &[])?, Err(Refusal::OutOfRange));
+        assert_eq!(rt; dealt(heap, 1, &[1; 8])?, Ok(255));
+        assert_eq!(rt; dealt(heap, 1, &[1; 9])?, Err(Refusal::OutOfRange));
+        assert_eq!(rt; dealt(heap, 33, &[33])?, Err(Refusal::WrongSubchannels));
+        assert_eq!(rt; dealt(heap, 1, &[0])?, Err(Refusal::WrongSubchannels));
         Ok(())
+    }
+
+    #[test]
+    fn numbers_of_refusals(rt: HostRuntime) {
+        assert_eq!(rt;
+            (
+                Refusal::OutOfRange.number(),
+                Refusal::WrongSubchannels.number(),
+                Refusal::TooManyPages.number(),
+                Refusal::PeriodTooLong.number(),
+            ),
+            (Some(1), Some(2), Some(3), Some(4))
+        );
+        assert_eq!(rt; Refusal::OutOfMemory.number(), None);
     }
 
     #[test]

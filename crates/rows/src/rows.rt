@@ -4,6 +4,7 @@ ghost use Rattle.rows.specs.Rows.{rows_timetable, rows_timetable_lawful, fitting
 use records::kinds::Row;
 use std::convert::AsSlice;
 use timetable::interface::Timetable;
+use timetable::turns::turn_in;
 
 // A timetable by rows, lent or its own: a channel carries the lowest page among its rows that fit the slot.
 #[derive(Clone, Copy, Drop)]
@@ -44,9 +45,9 @@ impl<L: AsSlice<Row>> Timetable for Rows<L> {
     }
 
     fn page_at(&self, channel: u8, slot: u32) -> u16 {
-        if self.period == 0 || channel == 0 || channel > self.channels {
+        let Some(turn) = turn_in(self.channels, self.period, channel, slot) else {
             return 0;
-        }
-        lowest_page(self.rows.as_slice(), channel, slot % self.period).unwrap_or(0)
+        };
+        lowest_page(self.rows.as_slice(), channel, turn).unwrap_or(0)
     }
 }

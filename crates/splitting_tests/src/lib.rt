@@ -99,7 +99,7 @@ mod tests {
         );
     }
 
-    fn begins(plan: &Rows, channel: u8, pages: &[u16]) -> bool {
+    fn begins(plan: &Rows<&[Row]>, channel: u8, pages: &[u16]) -> bool {
         pages
             .iter()
             .zip(0..)

@@ -1,5 +1,5 @@
 -- What a timetable means, and the law that every timetable keeps.
-use Rattle.std.specs.Prelude.{◌≡◌, ℕ, ◌+◌, ◌%◌, ◌^◌, ◌<◌, Bool, true, false, cond, ◌==◌, nat_lt, refl}
+use Rattle.std.specs.Prelude.{◌≡◌, ℕ, ◌+◌, ◌%◌, ◌^◌, ◌<◌, Bool, true, false, cond, Option, None, Some, ◌==◌, nat_lt, refl}
 use Rattle.std.proofs.Common.{ap, mod-lt, lit<, lt-ltb}
 use Rattle.std.proofs.Math.Nat.{add-mod_right}
 
@@ -22,6 +22,10 @@ pub record Lawful (M : Meaning) : Type 0 where
 -- nothing; it keeps the law for the numbers of a definition too, which have no bound.
 abbrev pub page_of : ℕ → ℕ → (ℕ → ℕ → ℕ) → ℕ → ℕ → ℕ
 page_of c p F k t = cond (p == 0) 0 (cond (k == 0) 0 (cond (nat_lt c k) 0 (F k (t % p) % 2 ^ 16)))
+
+-- the slot of the period that slot t is, on channel k: none on any channel but 1 to c, or where the period is 0
+abbrev pub turn_of : ℕ → ℕ → ℕ → ℕ → Option ℕ
+turn_of c p k t = cond (p == 0) None (cond (k == 0) None (cond (nat_lt c k) None (Some (t % p))))
 
 -- the timetable of c channels and period p that carries F over and over
 abbrev pub repeating : ℕ → ℕ → (ℕ → ℕ → ℕ) → Meaning

@@ -1,6 +1,7 @@
 ghost use Rattle.timetable.specs.Grid.{grid, grid_lawful};
 
 use super::interface::Timetable;
+use super::turns::turn_in;
 
 // A timetable written out in lent memory: the pages of all channels in slot 0, then those of slot 1, and so on.
 #[derive(Clone, Copy)]
@@ -24,11 +25,11 @@ impl Timetable for Grid<'_> {
     }
 
     fn page_at(&self, channel: u8, slot: u32) -> u16 {
-        if self.period == 0 || channel == 0 || channel > self.channels {
+        let Some(turn) = turn_in(self.channels, self.period, channel, slot) else {
             return 0;
-        }
+        };
         // Kept so: no `usize::from` takes 32 bits.
-        let line = (slot % self.period) as usize * usize::from(self.channels);
+        let line = turn as usize * usize::from(self.channels);
         let place = line + usize::from(channel) - 1;
         self.cells.get(place).copied().unwrap_or(0)
     }

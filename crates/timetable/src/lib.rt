@@ -4,3 +4,4 @@
 pub mod aired;
 pub mod grid;
 pub mod interface;
+pub mod turns;

@@ -8,6 +8,7 @@ use records::kinds::{Inner, Node};
 use std::alloc::Global;
 use std::convert::AsSlice;
 use timetable::interface::Timetable;
+use timetable::turns::turn_in;
 
 // A timetable by nodes, lent or its own: each of the channels begins at a node of its own, the first at node 0.
 #[derive(Clone, Copy, Drop)]
@@ -84,13 +85,9 @@ impl<L: AsSlice<Node>> Timetable for Tree<L> {
     }
 
     fn page_at(&self, channel: u8, slot: u32) -> u16 {
-        if self.period == 0 || channel == 0 || channel > self.channels {
+        let Some(turn) = turn_in(self.channels, self.period, channel, slot) else {
             return 0;
-        }
-        node_step(
-            self.nodes.as_slice(),
-            usize::from(channel) - 1,
-            slot % self.period,
-        )
+        };
+        node_step(self.nodes.as_slice(), usize::from(channel) - 1, turn)
     }
 }
