@@ -28,9 +28,7 @@ pub fn input<R: Env + Files + Input + AllocGlobal>(
             Ok(bytes) => Ok(bytes),
             Err(e) => Err(anyhow!(format!(in rt.alloc(); "{path}: {e}")?)),
         },
-        (Some(_), Some(_)) => Err(anyhow!(
-            format!(in rt.alloc(); "usage: {program} [FILE]")?
-        )),
+        (Some(_), Some(_)) => Err(anyhow!(format!(in rt.alloc(); "usage: {program} [FILE]")?)),
     }
 }
 
