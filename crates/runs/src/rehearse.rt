@@ -12,6 +12,7 @@ use timetable::interface::Timetable;
 
 // Builds a station over a timetable, makes the calls of a script on it, and feeds a receiver what was sent. Without memory for
 // that, nothing is answered and the store stays as it was.
+// Kept so: delay, pages, table and mark are those of `Station::new`; a struct for them would be taken apart in the first line.
 pub fn rehearse<T: Timetable + Drop>(
     heap: Global,
     delay: u16,
