@@ -1,6 +1,7 @@
 -- The numbers of a plan that is loaded are in range, and its closures can be booked.
 use Rattle.std.proofs.Common.{◌≡◌, ℕ, ◌≤◌, true, List, length, vec_items, sym, ap, ◌∙◌, subst, arith}
 use Rattle.std.proofs.lemmas.Bool.{and_from, le-leb, lt-ltb}
+use Rattle.records.specs.Ranges.{FilmInRange}
 use Rattle.records.specs.declared.kinds.Closure.{Closure}
 use Rattle.records.specs.declared.kinds.Film.{Film}
 use Rattle.timetable.specs.Meaning.{Meaning}
@@ -9,7 +10,7 @@ use Rattle.format.specs.declared.plan.Parts.{Parts}
 use Rattle.format.specs.declared.plan.Parts.TheVariants as parts
 use Rattle.station.specs.States.{in_table}
 use Rattle.judging.specs.Judgements.{Bookable}
-use Rattle.schedule.specs.Planning.{FilmInRange, Schedules}
+use Rattle.schedule.specs.Planning.{Schedules}
 use Rattle.schedule.specs.Schedules.{meant}
 use Rattle.schedule.specs.declared.schedule.Schedule.{Schedule}
 use Rattle.schedule.specs.declared.schedule.Schedule.TheVariants.{Pagoda, Rows, Tree}

@@ -9,7 +9,8 @@ use Rattle.load.specs.declared.loading.Loaded.{Loaded}
 use Rattle.schedule.specs.declared.schedule.Schedule.{Schedule}
 use Rattle.load.specs.Closures.{told_closure, CloseTo, FirstIdle}
 use Rattle.load.specs.Told.{told_plan}
-use Rattle.schedule.specs.Planning.{FilmInRange, Schedules, Refuses}
+use Rattle.records.specs.Ranges.{FilmInRange}
+use Rattle.schedule.specs.Planning.{Schedules, Refuses}
 use Rattle.schedule.specs.Schedules.{meant}
 
 -- the records before closure i of a plan

@@ -1,4 +1,6 @@
 // The records of a plan, as plain numbers. A film is cut into pages; pages circle on channels, slot by slot.
+ghost use Rattle.std.specs.Prelude.{Decides};
+ghost use Rattle.records.specs.Ranges.{FilmInRange};
 
 // The numbers of a film: the delay in slots before it starts, its pages, and the channels that carry it.
 #[derive(Clone, Copy, Debug, PartialEq, Eq)]
@@ -6,6 +8,17 @@ pub struct Film {
     pub delay: u16,
     pub pages: u16,
     pub channels: u8,
+}
+
+impl Film {
+    // Whether its numbers are such as a plan can be made for.
+    pub fn is_in_range(&self) -> bool
+        ensures decides { Decides result (FilmInRange self.now) }
+    {
+        (1..=1024).contains(&self.delay)
+            && (1..=1024).contains(&self.pages)
+            && (1..=8).contains(&self.channels)
+    }
 }
 
 // One channel of a pagoda plan, by the number of its subchannels.

@@ -1,6 +1,7 @@
 -- The plan of a film, or why there is none.
 use Rattle.std.specs.Prelude.{◌≡◌, ℕ, ◌≤◌, ◌⊎◌, List, [], length, Some, None, vec_items, Result, MatchResult, ◌≢◌}
 use Rattle.records.specs.declared.kinds.Channel.{Channel}
+use Rattle.records.specs.Ranges.{FilmInRange}
 use Rattle.records.specs.declared.kinds.Film.{Film}
 use Rattle.plans.specs.Refusals.{told}
 use Rattle.plans.specs.declared.refusal.Refusal.{Refusal}
@@ -14,12 +15,6 @@ use Rattle.schedule.specs.declared.schedule.Schedule.{Schedule}
 use Rattle.schedule.specs.declared.schedule.Schedule.TheVariants.{Pagoda, Rows, Tree}
 use Rattle.planner.specs.PagodaAnswers.{Planned, PagodaRefused}
 use Rattle.planner.specs.declared.pagoda.Pagoda as pagodas
-
--- the numbers that a film may have
-pub record FilmInRange (f : Film) : Type 0 where
-  pub delay : (1 ≤ f.delay) × (f.delay ≤ 1024)
-  pub pages : (1 ≤ f.pages) × (f.pages ≤ 1024)
-  pub channels : (1 ≤ f.channels) × (f.channels ≤ 8)
 
 -- the pagoda plan of a film: it has the film's channels and pages
 pub record PagodaFits (f : Film) (cs : List Channel) (plan : pagodas.Pagoda) : Type 0 where

@@ -1,6 +1,5 @@
 // From the records of a plan to its timetable.
-ghost use Rattle.schedule.specs.Planning.{FilmInRange, PagodaAnswered, Scheduled};
-ghost use Rattle.std.specs.Prelude.{MatchBool};
+ghost use Rattle.schedule.specs.Planning.{PagodaAnswered, Scheduled};
 
 use crate::schedule::Schedule;
 use format::plan::Parts;
@@ -12,15 +11,6 @@ use rows::period::rows_period;
 use rows::rows::Rows;
 use std::alloc::Global;
 use tree::plan::Tree;
-
-// Whether the numbers of a film are such as a plan may have.
-fn in_range(film: Film) -> bool
-    ensures decides { MatchBool result (FilmInRange film) (FilmInRange film → ⊥) }
-{
-    (1..=1024).contains(&film.delay)
-        && (1..=1024).contains(&film.pages)
-        && (1..=8).contains(&film.channels)
-}
 
 // The pagoda plan of a film, which has to have as many channels and pages as the film.
 fn pagoda_of(heap: Global, film: Film, channels: &[Channel]) -> Result<Pagoda, Refusal>
@@ -40,7 +30,7 @@ fn pagoda_of(heap: Global, film: Film, channels: &[Channel]) -> Result<Pagoda, R
 pub fn schedule_of(heap: Global, film: Film, parts: Parts) -> Result<Schedule, Refusal>
     ensures plans_or_refuses { Scheduled film parts result }
 {
-    if !in_range(film) {
+    if !film.is_in_range() {
         return Err(Refusal::OutOfRange);
     }
     let channels = film.channels;

@@ -1,4 +1,4 @@
-ghost use Rattle.std.specs.Prelude.{◌≡◌, ◌+◌, ◌*◌, ◌<◌, ◌≤◌, length, Decides, All};
+ghost use Rattle.std.specs.Prelude.{◌≡◌, ◌+◌, ◌*◌, ◌<◌, ◌≤◌, length, All};
 ghost use Rattle.bag.specs.Bags.{held, room, SameMemory};
 ghost use Rattle.splitting_rule.specs.Answers.{Askable, AllZero, FillAnswer, SplittingAnswer, SplittingApart, SplittingListed, SplittingSound};
 ghost use Rattle.sequences.specs.Sequences.{Usable};
@@ -6,7 +6,7 @@ ghost use Rattle.splitting_rule.specs.Steps.{AfterChannels, AfterRest, AfterPage
 
 use bag::bag::{Bag, Full};
 use plans::refusal::Refusal;
-use records::kinds::Row;
+use records::kinds::{Film, Row};
 use rows::period::rows_period;
 use sequences::sequence::FreeSequence;
 
@@ -110,13 +110,6 @@ fn clear_rows(rows: &mut [Row])
     });
 }
 
-// Whether the numbers are those of a film that can be planned.
-fn in_range(delay: u16, channels: u8, pages: u16) -> bool
-    ensures decides { Decides result (Askable delay channels pages) }
-{
-    (1..=1024).contains(&delay) && (1..=8).contains(&channels) && (1..=1024).contains(&pages)
-}
-
 // Plans a film of 1 to 1,024 pages for a delay of 1 to 1,024 slots on 1 to 8 channels. The first rows, one for each page, are
 // then the plan, and the answer is its period. The bag is for the sequences that are free while the pages are placed.
 pub fn plan(
@@ -132,7 +125,12 @@ pub fn plan(
     ensures no_shared_slot { SplittingApart pages rows.new result }
     ensures starves_nobody { SplittingSound delay channels pages rows.new result }
 {
-    if !in_range(delay, channels, pages) {
+    let film = Film {
+        delay,
+        pages,
+        channels,
+    };
+    if !film.is_in_range() {
         return Err(Refusal::OutOfRange);
     }
     let filled = fill(delay, channels, pages, rows, bag);

@@ -1,7 +1,8 @@
-use Rattle.std.proofs.Common.{sym, subst, inr}
+use Rattle.std.proofs.Common.{sym, subst, inr, refl}
 use Rattle.records.proofs.Exits.{exit}
+use Rattle.records.specs.Ranges.{FilmInRange}
 use Rattle.plans.specs.Refusals.{told}
-use Rattle.schedule.specs.Planning.{FilmInRange, PagodaUnfit, Schedules, Unplanned, Refuses}
+use Rattle.schedule.specs.Planning.{PagodaUnfit, Schedules, Unplanned, Refuses}
 use Rattle.schedule.proofs.planning.schedule_of.Goals as goal
 
 pub returns-in_err-pagoda_of-in-Pagoda : goal.returns-in_err-pagoda_of-in-Pagoda
@@ -12,5 +13,5 @@ returns-in_err-pagoda_of-in-Pagoda c =
     let unfit = subst (λ cs. PagodaUnfit f cs (told e)) c.as_slice.ensures.value c.in_err-pagoda_of-in-Pagoda.ensures.plans_or_refuses in
     record {
       plans_or_refuses = exit (λ s. FilmInRange f × Schedules f p s) (λ e. Refuses f p (told e)) c.from_residual.result e c.from_residual.ensures.1
-          (inr (c.if-not-in_range.ensures.decides, subst (λ p. Unplanned f p (told e)) (sym c.in-Pagoda.is) unfit));
+          (inr (c.if-not-is_in_range.ensures.decides.0 refl, subst (λ p. Unplanned f p (told e)) (sym c.in-Pagoda.is) unfit));
     }
