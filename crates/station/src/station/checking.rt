@@ -41,6 +41,7 @@ impl<T: Timetable> Station<T> {
         ensures scratch_zeroed { scratch.new ≡ replicate (length scratch.old) 0 }
     {
         let guard = Scratch { cells: scratch };
+        // Kept so: from a derived `==` with `Phase::Open` the proof does not get that the phase is `Open`.
         if let Phase::Open = self.phase {
             return Err(Refusal::NotPassed);
         }

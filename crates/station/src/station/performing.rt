@@ -34,6 +34,7 @@ fn close_answer(res: Result<Slip, Refusal>) -> Result<Answer, Refusal>
 }
 
 // The answer of opening again; a slip that is handed back is kept.
+// Kept so: a refused slip has to be kept before the refusal is handed on, and two closures for the two cases are no plainer.
 fn reopen_answer(res: Result<(), (Refusal, Slip)>) -> Result<Answer, Refusal>
     ensures tells_result { answered result ≡ by_reopen res }
 {
