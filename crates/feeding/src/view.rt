@@ -29,6 +29,7 @@ fn follow(
     phases::show_all(&mut showing, store, late, viewing)
 }
 
+// Kept so: a function of its own, so that the theorems that follow from its promise are proved once over it, and not at each of its returns.
 // Tunes a receiver and feeds it the lines. The memory for the viewing is taken before anything is fed.
 pub fn view(
     heap: Global,

@@ -29,6 +29,8 @@ pub enum LoadFault {
 }
 
 impl ClosureFault {
+    // Kept so: the rules give each fault a number.
+    // The number of the fault.
     pub fn number(&self) -> u8
         ensures is_told { result ≡ told_closure self.now }
     {

@@ -106,9 +106,11 @@ fn node_periods(heap: Global, nodes: &[Node]) -> Result<Vec<u32>, Refusal>
     Ok(periods)
 }
 
-// The period of a tree, as `tree_period` answers it.
-fn judged(heap: Global, nodes: &[Node], channels: u8) -> Result<u32, Refusal>
+// The period of the tree whose roots are the first nodes, one for each channel: the slots after which all of them have
+// the same turns to hand out again.
+pub fn tree_period(heap: Global, nodes: &[Node], channels: u8) -> Result<u32, Refusal>
     ensures period_or_refusal { PeriodAnswer nodes.now channels result }
+    ensures least_common_multiple { PeriodLeast nodes.now channels result }
 {
     if !askable(nodes.len(), channels) {
         return Err(Refusal::OutOfRange);
@@ -119,13 +121,4 @@ fn judged(heap: Global, nodes: &[Node], channels: u8) -> Result<u32, Refusal>
     let periods = node_periods(heap, nodes)?;
     let roots = usize::from(channels);
     all_joined(&periods.as_slice()[..roots]).ok_or(Refusal::PeriodTooLong)
-}
-
-// The period of the tree whose roots are the first nodes, one for each channel: the slots after which all of them have
-// the same turns to hand out again.
-pub fn tree_period(heap: Global, nodes: &[Node], channels: u8) -> Result<u32, Refusal>
-    ensures period_or_refusal { PeriodAnswer nodes.now channels result }
-    ensures least_common_multiple { PeriodLeast nodes.now channels result }
-{
-    judged(heap, nodes, channels)
 }

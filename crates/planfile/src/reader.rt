@@ -66,6 +66,7 @@ fn read_parts(heap: Global, bytes: &[u8], at: usize) -> Result<(Parts, usize), F
     Err(misfit(bytes, at))
 }
 
+// Kept so: a function of its own, so that the theorems that follow from its promise are proved once over it, and not at each of its returns.
 fn parse_plan(heap: Global, bytes: &[u8]) -> Result<Plan, Fault>
     ensures answers { Answers bytes.now result }
 {

@@ -26,6 +26,7 @@ pub enum Refusal {
 }
 
 impl Refusal {
+    // Kept so: the rules give each refusal a number.
     // The number of the refusal, or `None` for want of memory, which is no judgement on a plan.
     pub fn number(&self) -> Option<u8>
         ensures is_told { MatchOption result (self.now ≡ OutOfMemory) (λ n. (n ≢ 0) × ((told self.now).0 ≡ n)) }

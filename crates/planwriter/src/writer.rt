@@ -52,6 +52,7 @@ pub fn put_bytes(bytes: &[u8], out: &mut [u8]) -> Option<usize>
     Some(length)
 }
 
+// Kept so: a function of its own, so that the theorems that follow from its promise are proved once over it, and not at each of its returns.
 fn put_plan(heap: Global, plan: &Plan, out: &mut [u8]) -> Result<usize, WriteFault<Fault>>
     ensures writes { Written plan.now out.old out.new result }
 {

@@ -110,6 +110,7 @@ fn clear_rows(rows: &mut [Row])
     });
 }
 
+// Kept so: callers have three numbers, and no film before they are known to be in range.
 // Plans a film of 1 to 1,024 pages for a delay of 1 to 1,024 slots on 1 to 8 channels. The first rows, one for each page, are
 // then the plan, and the answer is its period. The bag is for the sequences that are free while the pages are placed.
 pub fn plan(

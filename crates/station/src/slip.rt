@@ -5,6 +5,7 @@ use records::kinds::Closure;
 
 // It says whose entry is closed and which. It must be spent, by opening the entry again or by keeping it closed: a program
 // that lets one go does not build.
+// Kept so: by a rule of the project a slip may be dropped once it is spent and not before, and its drop asks for the flag.
 pub struct Slip {
     pub(crate) mark: u32,
     pub(crate) entry: Closure,

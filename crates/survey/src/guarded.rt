@@ -37,6 +37,7 @@ fn greatest_peak<T: Timetable>(table: &T, delay: u16, film: u16, cells: &mut [u3
     (best, first)
 }
 
+// Kept so: a function of its own, so that the theorems that follow from its promise are proved once over it, and not at each of its returns.
 // The survey, over cells that are all 0 again when it ends.
 pub fn survey_cells<T: Timetable>(
     table: &T,

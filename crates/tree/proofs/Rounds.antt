@@ -1,5 +1,5 @@
 -- After its period a node carries the same again.
-use Rattle.std.proofs.Common.{◌≡◌, ℕ, zero, suc, ◌+◌, ◌-◌, ◌*◌, ◌/◌, ◌%◌, ◌^◌, ◌<◌, ◌≤◌, List, length, get_or, take, drop, Ok, Err, Result, sym, refl, ap, ◌∙◌, subst, inl, inr, mod-lt, mul_assoc, mul_comm, arith, le-ltb, ne_eqb}
+use Rattle.std.proofs.Common.{◌≡◌, ℕ, zero, suc, ◌+◌, ◌-◌, ◌*◌, ◌/◌, ◌%◌, ◌^◌, ◌<◌, ◌≤◌, List, length, get_or, take, drop, sym, refl, ap, ◌∙◌, subst, inl, inr, mod-lt, mul_assoc, mul_comm, arith, le-ltb, ne_eqb}
 use native.Mathlib.Nat.{add-mul-div_right, add-mul-mod_self_right, mod-add-div'}
 use Rattle.std.proofs.lemmas.List.{get_or-take, get_or-drop, length-take-le, length-drop}
 use Rattle.std.proofs.lemmas.Bool.{cases_lt}
@@ -10,11 +10,9 @@ use Rattle.numbers.specs.Computed.{lcm_of_all}
 use Rattle.numbers.specs.Divisors.{Divides, MultipleOfAll}
 use Rattle.numbers.proofs.All.{multiple_at, lcm_of_all_is}
 use Rattle.numbers.proofs.Dividing.{divides_times}
-use Rattle.plans.specs.declared.refusal.Refusal.{Refusal}
 use Rattle.nodes.specs.Answers.{AllRight, Right, Planned}
 use Rattle.nodes.specs.Finding.{period_in}
 use Rattle.nodes.specs.Periods.{node_periods}
-use Rattle.tree.specs.Plans.{LentTree, TreeOf, PlanAnswer, PlanComesRound, ComesRound}
 use Rattle.nodes.specs.Turns.{node_at, handed, carried, tree}
 use Rattle.nodes.proofs.Known.{length_periods}
 use Rattle.nodes.proofs.Least.{period_among}
@@ -71,7 +69,7 @@ module _ (nodes : List Node) (right : AllRight nodes) where
   pub comes_round : (x v q : ℕ) → Divides (period x) q → carried nodes x (v + q) ≡ carried nodes x v
   comes_round x = round_in (length nodes) x (omega arith)
 
-planned_round : (nodes : List Node) (c p : ℕ) → Planned nodes c p → (k t : ℕ) → 1 ≤ k → k ≤ c → (tree nodes c p).page k t ≡ carried nodes (k - 1) t % 2 ^ 16
+pub planned_round : (nodes : List Node) (c p : ℕ) → Planned nodes c p → (k t : ℕ) → 1 ≤ k → k ≤ c → (tree nodes c p).page k t ≡ carried nodes (k - 1) t % 2 ^ 16
 planned_round nodes c p h k t low high =
     let roots = subst (λ (l : ℕ). MultipleOfAll (take c (node_periods nodes)) l) (sym h.period) (lcm_of_all_is (take c (node_periods nodes))).of_all in
     let own = multiple_part (node_periods nodes) 0 c p (k - 1) (omega (arith, h.askable.4, length_periods 0 nodes)) (omega arith) roots in
@@ -79,11 +77,3 @@ planned_round nodes c p h k t low high =
     comes_round nodes h.right (k - 1) (t % p) (t / p * p) (divides_times _ (t / p) p (subst (λ (x : ℕ). Divides (get_or (node_periods nodes) x 0) p) (omega arith) own)) in
     rw (ne_eqb p 0 (λ e. omega (arith, h.some)), ne_eqb k 0 (λ e. omega arith), le-ltb c k high)
     (ap (λ (x : ℕ). x % 2 ^ 16) (sym same ∙ ap (λ (w : ℕ). carried nodes (k - 1) w) (mod-add-div' t p)))
-
-tree_round : (nodes : List Node) (c : ℕ) (plan : LentTree) → TreeOf nodes c plan → ComesRound plan
-tree_round nodes c plan h k t low high =
-    rw (h.nodes_kept, h.channels_kept) (planned_round nodes c plan.period h.planned k t low (omega (arith, high, h.channels_kept)))
-
-pub answer_round : (nodes : List Node) (c : ℕ) (answer : Result LentTree Refusal) → PlanAnswer nodes c answer → PlanComesRound answer
-answer_round nodes c (Ok plan) h = tree_round nodes c plan h
-answer_round nodes c (Err e) h = tt

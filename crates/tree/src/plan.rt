@@ -10,6 +10,7 @@ use std::convert::AsSlice;
 use timetable::interface::Timetable;
 use timetable::turns::turn_in;
 
+// Kept so: a plan file names nodes by their numbers, so a tree is the file's list of nodes and no tree of boxes.
 // A timetable by nodes, lent or its own: each of the channels begins at a node of its own, the first at node 0.
 #[derive(Clone, Copy, Drop)]
 pub struct Tree<L> {
@@ -48,18 +49,6 @@ fn child_step(nodes: &[Node], parent: Inner, turn: u32) -> u16
     node_step(nodes, child, turn / degree)
 }
 
-// The tree whose roots are the first nodes, as `Tree::plan` answers it.
-fn planned<'a>(heap: Global, nodes: &'a [Node], channels: u8) -> Result<Tree<&'a [Node]>, Refusal>
-    ensures tree_or_refusal { PlanAnswer nodes.now channels result }
-{
-    let period = tree_period(heap, nodes, channels)?;
-    Ok(Tree {
-        nodes,
-        channels,
-        period,
-    })
-}
-
 impl<'a> Tree<&'a [Node]> {
     // The tree whose roots are the first nodes, one for each channel, with its period.
     pub fn plan(heap: Global, nodes: &'a [Node], channels: u8) -> Result<Tree<&'a [Node]>, Refusal>
@@ -67,7 +56,12 @@ impl<'a> Tree<&'a [Node]> {
         ensures hands_turns_on { HandsTurnsOn nodes.now (carried nodes.now) }
         ensures comes_round { PlanComesRound result }
     {
-        planned(heap, nodes, channels)
+        let period = tree_period(heap, nodes, channels)?;
+        Ok(Tree {
+            nodes,
+            channels,
+            period,
+        })
     }
 }
 

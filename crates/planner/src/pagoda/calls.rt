@@ -17,32 +17,25 @@ fn askable(delay: u16, channels: &[Channel]) -> bool
     (1..=1024).contains(&delay) && (1..=8).contains(&channels.len())
 }
 
-// The plan for a delay and the subchannels of each channel, as `Pagoda::plan` answers it.
-fn planned(heap: Global, delay: u16, channels: &[Channel]) -> Result<Pagoda, Refusal>
-    ensures plan_or_refusal { PagodaAnswer delay channels.now result }
-{
-    if !askable(delay, channels) {
-        return Err(Refusal::OutOfRange);
-    }
-    let (dealt, last) = deal(heap, delay, channels)?;
-    let period = last.period.ok_or(Refusal::PeriodTooLong)?;
-    let channels = Vec::from_slice(heap, channels)?;
-    Ok(Pagoda {
-        delay,
-        pages: last.first - 1,
-        period,
-        channels,
-        dealt,
-    })
-}
-
 impl Pagoda {
     // The plan for a delay of 1 to 1,024 slots and the subchannels of each of 1 to 8 channels.
     pub fn plan(heap: Global, delay: u16, channels: &[Channel]) -> Result<Pagoda, Refusal>
         ensures plan_or_refusal { PagodaAnswer delay channels.now result }
         ensures starves_nobody { PagodaSound result }
     {
-        planned(heap, delay, channels)
+        if !askable(delay, channels) {
+            return Err(Refusal::OutOfRange);
+        }
+        let (dealt, last) = deal(heap, delay, channels)?;
+        let period = last.period.ok_or(Refusal::PeriodTooLong)?;
+        let channels = Vec::from_slice(heap, channels)?;
+        Ok(Pagoda {
+            delay,
+            pages: last.first - 1,
+            period,
+            channels,
+            dealt,
+        })
     }
 
     // The slots from the tune-in to the film's start.
@@ -58,9 +51,7 @@ impl Pagoda {
     {
         self.pages
     }
-}
 
-impl Pagoda {
     // How many subchannels a channel has, counted from 0.
     fn count(&self, index: usize) -> u32
         requires within { index < vec_len self.now.channels }

@@ -185,6 +185,7 @@ impl<T: Timetable> Station<T> {
         })
     }
 
+    // Kept so: calls are values, so that one theorem speaks of every list of them, and here each of them is made.
     // One call, on this station. Without memory for the reply the station stays as it was.
     pub fn perform(&mut self, heap: Global, call: Call) -> Result<Reply, AllocError>
         ensures does_or_stays { MatchResult result (λ reply. Does (seen (T.meaning self.old.table) self.old) call (replied reply) (seen (T.meaning self.new.table) self.new)) (λ _. seen (T.meaning self.new.table) self.new ≡ seen (T.meaning self.old.table) self.old) }

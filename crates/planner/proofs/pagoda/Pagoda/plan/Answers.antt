@@ -1,9 +1,32 @@
-use Rattle.planner.proofs.PagodaSounds.{answer_sound}
+use Rattle.std.proofs.Common.{ℕ, ◌≡◌, ◌-◌, List, length, vec_items, vec_len, map, Option, subst, arith}
+use Rattle.records.specs.declared.kinds.Channel.{Channel}
+use Rattle.planner.specs.Pagoda.{Deals, laid, cycles, pagoda_pages}
+use Rattle.plans.specs.Periods.{PeriodOf}
+use Rattle.planner.proofs.PagodaPlans.{pagoda_sound}
+use Rattle.planner.proofs.Questions.{moved}
 use Rattle.planner.proofs.pagoda.Pagoda.plan.Goals as goal
 
-pub returns : goal.returns
-returns c =
+pub invariant_of-result : goal.invariant_of-result
+invariant_of-result c =
+    let dealt = c.in_ok-dealt.ensures.all_dealt in
+    let made = c.in_ok-channels.ensures in
+    let m : ℕ = c.args.delay in
+    let cs = c.args.channels.now in
+    let period = subst (λ (o : Option ℕ). PeriodOf (cycles m cs (length cs)) o) c.in_ok-period.ensures.ok_part dealt.together in
     record {
-      plan_or_refusal = c.planned.ensures.plan_or_refusal;
-      starves_nobody = answer_sound _ _ _ c.planned.ensures.plan_or_refusal;
+      few = omega (arith, made.len, c.if-not-askable.ensures.decides.channels);
+      positive = period.2;
+      deals =
+          moved (λ (cs : List Channel) (n : ℕ). Deals m cs n) cs (vec_items c.in_ok-channels.channels) (length cs) (vec_len c.in_ok-channels.channels) made.items made.len dealt.deals;
+      laid =
+          moved (λ (cs : List Channel) (n : ℕ). map vec_items (vec_items c.in_ok-dealt.dealt) ≡ laid m cs n) cs (vec_items c.in_ok-channels.channels) (length cs) (vec_len c.in_ok-channels.channels) made.items made.len dealt.lists;
     }
+
+pub returns-clause-starves_nobody : goal.returns-clause-starves_nobody
+returns-clause-starves_nobody c =
+    let dealt = c.in_ok-dealt.ensures.all_dealt in
+    let m : ℕ = c.args.delay in
+    let cs = c.args.channels.now in
+    let period = subst (λ (o : Option ℕ). PeriodOf (cycles m cs (length cs)) o) c.in_ok-period.ensures.ok_part dealt.together in
+    let pages : c.in_ok-dealt.last.first - 1 ≡ pagoda_pages m cs = omega (arith, dealt.next) in
+    rw (c.in_ok-channels.ensures.items, pages) (pagoda_sound m cs dealt.deals c.in_ok-period.period period.2 period.0.of_all)
