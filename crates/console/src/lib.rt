@@ -1,7 +1,7 @@
 // What the programs over plan files share: the bytes that they look at, the lines that they print, and how they end.
 #![tactic(auto)]
 
-ghost use Rattle.std.specs.Prelude.{◌≡◌, MatchResult};
+ghost use Rattle.std.specs.Prelude.{◌≡◌, ◌<◌, IfSome, MatchResult};
 ghost use Rattle.std.specs.Process.{exit_status};
 
 use anyhow::anyhow;
@@ -24,10 +24,9 @@ pub fn input<R: Env + Files + Input + AllocGlobal>(
             rt.reader().read_to_end(&mut bytes)?;
             Ok(bytes)
         }
-        (Some(path), None) => match fs::read(rt, path.as_str()) {
-            Ok(bytes) => Ok(bytes),
-            Err(e) => Err(anyhow!(format!(in rt.alloc(); "{path}: {e}")?)),
-        },
+        (Some(path), None) => fs::read(rt, path.as_str()).try_map_err(|e| Ok(anyhow!(
+            format!(in rt.alloc(); "{path}: {e}")?
+        ))),
         (Some(_), Some(_)) => Err(anyhow!(format!(in rt.alloc(); "usage: {program} [FILE]")?)),
     }
 }
@@ -58,7 +57,9 @@ pub fn status<R: Eprint>(rt: &R, done: anyhow::Result<()>) -> ExitCode
 }
 
 // Kept so: the kit's `hex` takes capital letters too and refuses an odd number of digits, and these cases do neither.
-fn digit(b: u8) -> Option<u8> {
+fn digit(b: u8) -> Option<u8>
+    ensures below_16 { IfSome result (λ d. d < 16) }
+{
     match b {
         b'0'..=b'9' => Some(b - b'0'),
         b'a'..=b'f' => Some(b - b'a' + 10),
@@ -68,10 +69,10 @@ fn digit(b: u8) -> Option<u8> {
 
 fn append_digits(out: &mut Vec<u8>, digits: &[u8]) -> anyhow::Result<()> {
     for pair in digits.chunks_exact(2) {
-        match (digit(pair[0]), digit(pair[1])) {
-            (Some(high), Some(low)) => out.push((high & 15) * 16 + (low & 15))?,
-            _ => return Err(anyhow!("no hexadecimal digit")),
-        }
+        let (high, low) = digit(pair[0])
+            .zip(digit(pair[1]))
+            .ok_or_else(|| anyhow!("no hexadecimal digit"))?;
+        out.push(high * 16 + low)?;
     }
     Ok(())
 }

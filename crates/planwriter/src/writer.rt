@@ -44,28 +44,19 @@ pub fn plan_bytes(heap: Global, plan: &Plan) -> Result<Vec<u8>, Fault>
 pub fn put_bytes(bytes: &[u8], out: &mut [u8]) -> Option<usize>
     ensures puts_all_or_nothing { PutAll bytes.now out.old out.new result }
 {
-    let length = bytes.len();
-    if out.len() < length {
-        return None;
-    }
-    out[0..length].copy_from_slice(bytes);
-    Some(length)
-}
-
-// Kept so: a function of its own, so that the theorems that follow from its promise are proved once over it, and not at each of its returns.
-fn put_plan(heap: Global, plan: &Plan, out: &mut [u8]) -> Result<usize, WriteFault<Fault>>
-    ensures writes { Written plan.now out.old out.new result }
-{
-    let bytes = plan_bytes(heap, plan)?;
-    read_plan(heap, bytes.as_slice())?;
-    put_bytes(bytes.as_slice(), out).ok_or(WriteFault::NoRoom)
+    let (front, _) = out.split_at_mut_checked(bytes.len())?;
+    front.copy_from_slice(bytes);
+    Some(bytes.len())
 }
 
 // Writes a plan to the beginning of `out`, and answers how many bytes it took. What reading would refuse is not written, and then `out` stays as it was.
+// Kept so: one function for this and the load crate's `save` would take the reading as a closure, and a public function must ask its callers then that the closure may be called.
 pub fn write_plan(heap: Global, plan: &Plan, out: &mut [u8]) -> Result<usize, WriteFault<Fault>>
     ensures writes { Written plan.now out.old out.new result }
     ensures reads_back { ReadsBack plan.now out.new result }
     ensures writes_back { WritesBack plan.now out.old out.new result }
 {
-    put_plan(heap, plan, out)
+    let bytes = plan_bytes(heap, plan)?;
+    read_plan(heap, bytes.as_slice())?;
+    put_bytes(bytes.as_slice(), out).ok_or(WriteFault::NoRoom)
 }

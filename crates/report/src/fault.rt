@@ -21,6 +21,7 @@ impl From<LoadFault> for ReportFault {
     }
 }
 
+// Kept so: std has two errors for want of memory, and `?` needs an impl for each.
 impl From<AllocError> for ReportFault {
     ghost from_gives = { λ _ r. r ≡ OutOfMemory };
 
