@@ -24,7 +24,7 @@ fn missed(waiting: u32, found: u32, window: u32, by: u32) -> u32
     }
 }
 
-// Kept so: both numbers of each page lie in the one slice that the caller lends.
+// Kept so: what is proved of a sweep (`Heard`, `known`) is told of the one list that the caller lends; with two slices each of these would be told of two lists, and the code would save one addition.
 // One entry of the sweep: `page` is sent in `slot`. A number that is no page of the film changes nothing.
 fn settle(scratch: &mut [u32], film: Asked, page: u16, slot: u32)
     requires slot_small { slot < 2 ^ 29 }
@@ -73,6 +73,7 @@ pub(crate) fn sweep<T: Timetable>(
     outcome
 }
 
+// Kept so: the check and the findings each make it after `sweep`. Were it the answer of `sweep`, `findings`, whose sweep meets no stray entry, would have to name a refusal that never comes.
 // What a sweep over the slots below `end` left in the scratch.
 #[derive(Clone, Copy)]
 pub(crate) struct Swept<'a> {
