@@ -2,7 +2,7 @@
 ghost use Rattle.std.specs.Prelude.{◌≡◌, length, replicate};
 ghost use Rattle.checker.specs.Judged.{Judged, verdict_of};
 
-use crate::range::{Film, begin};
+use crate::range::{Asked, begin};
 use crate::refusal::CheckRefusal;
 use crate::sweep::{Swept, sweep};
 use scratch::Scratch;
@@ -19,7 +19,7 @@ pub fn check<T: Timetable>(
     ensures scratch_zeroed { scratch.new ≡ replicate (length scratch.old) 0 }
 {
     let guard = Scratch { cells: scratch };
-    let film = Film { delay, pages };
+    let film = Asked { delay, pages };
     let end = begin(table, film, guard.cells)?;
     sweep(table, film, end, pages, guard.cells)?;
     let swept = Swept {

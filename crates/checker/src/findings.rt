@@ -4,7 +4,7 @@ ghost use Rattle.bag.specs.Bags.{Emptied, SameMemory};
 ghost use Rattle.checker.specs.Findings.{Finds};
 ghost use Rattle.checker.specs.Sweep.{Filled, gathered};
 
-use crate::range::{Film, begin};
+use crate::range::{Asked, begin};
 use crate::refusal::FindingsRefusal;
 use crate::sweep::{Swept, sweep};
 use bag::bag::{Bag, Full};
@@ -40,7 +40,7 @@ pub fn findings<T: Timetable>(
 {
     let guard = Scratch { cells: scratch };
     bag.clear();
-    let film = Film { delay, pages };
+    let film = Asked { delay, pages };
     let end = begin(table, film, guard.cells)?;
     // No page is above the highest number, so this sweep goes over every entry.
     let _ = sweep(table, film, end, u16::MAX, guard.cells);

@@ -4,31 +4,34 @@ ghost use Rattle.timetable.specs.Windows.{InRange};
 ghost use Rattle.checker.specs.Ready.{Ready, NotReady};
 
 use crate::refusal::Unready;
+use records::kinds::Film;
 use scratch::zero;
 use timetable::interface::Timetable;
 
-// The delay of a film, and how many pages it has.
+// The delay of a film, and how many pages it has. On how many channels it is sent, the timetable tells.
 #[derive(Clone, Copy)]
-pub(crate) struct Film {
+pub(crate) struct Asked {
     pub(crate) delay: u16,
     pub(crate) pages: u16,
 }
 
 // Whether the delay, the pages, the channels and the period are in range.
-fn in_range<T: Timetable>(table: &T, film: Film) -> bool
+fn in_range<T: Timetable>(table: &T, film: Asked) -> bool
     ensures decides_range { Decides result (InRange (T.meaning table.now) film.delay film.pages) }
 {
-    (1..=1024).contains(&film.delay)
-        && (1..=1024).contains(&film.pages)
-        && (1..=8).contains(&table.channels())
-        && (1..=65_536).contains(&table.period())
+    let numbers = Film {
+        delay: film.delay,
+        pages: film.pages,
+        channels: table.channels(),
+    };
+    numbers.is_in_range() && (1..=65_536).contains(&table.period())
 }
 
 // Zeroes the scratch for a film whose numbers are in range. The answer is the slot after the last of the windows that begin
 // in the first period.
 pub(crate) fn begin<T: Timetable>(
     table: &T,
-    film: Film,
+    film: Asked,
     scratch: &mut [u32],
 ) -> Result<u32, Unready>
     ensures ready_or_not { MatchResult result

@@ -5,7 +5,7 @@ ghost use Rattle.timetable.specs.Windows.{FirstStray};
 ghost use Rattle.checker.specs.Ready.{Ready};
 ghost use Rattle.checker.specs.Sweep.{missing, heard, known, Heard, Clean, Tells, Lowest};
 
-use crate::range::Film;
+use crate::range::Asked;
 use crate::refusal::Stray;
 use bag::finding::Finding;
 use timetable::interface::Timetable;
@@ -24,9 +24,9 @@ fn missed(waiting: u32, found: u32, window: u32, by: u32) -> u32
     }
 }
 
-// Kept so: both numbers of each page lie in the one slice that the caller lends.
+// Kept so: what is proved of a sweep (`Heard`, `known`) is told of the one list that the caller lends; with two slices each of these would be told of two lists, and the code would save one addition.
 // One entry of the sweep: `page` is sent in `slot`. A number that is no page of the film changes nothing.
-fn settle(scratch: &mut [u32], film: Film, page: u16, slot: u32)
+fn settle(scratch: &mut [u32], film: Asked, page: u16, slot: u32)
     requires slot_small { slot < 2 ^ 29 }
     requires two_a_page { 2 * film.pages ≤ length scratch.old }
     requires not_ahead { (j : ℕ) → j < film.pages → slice_index scratch.old j ≤ slot + 1 }
@@ -44,7 +44,7 @@ fn settle(scratch: &mut [u32], film: Film, page: u16, slot: u32)
 // Sweeps over the entries of the slots below `end`, or to the first that carries a number above `highest`.
 pub(crate) fn sweep<T: Timetable>(
     table: &T,
-    film: Film,
+    film: Asked,
     end: u32,
     highest: u16,
     scratch: &mut [u32],
@@ -73,11 +73,12 @@ pub(crate) fn sweep<T: Timetable>(
     outcome
 }
 
+// Kept so: the check and the findings each make it after `sweep`. Were it the answer of `sweep`, `findings`, whose sweep meets no stray entry, would have to name a refusal that never comes.
 // What a sweep over the slots below `end` left in the scratch.
 #[derive(Clone, Copy)]
 pub(crate) struct Swept<'a> {
     pub(crate) cells: &'a [u32],
-    pub(crate) film: Film,
+    pub(crate) film: Asked,
     pub(crate) end: u32,
     ghost two_a_page: { 2 * film.pages ≤ length cells.now },
     ghost waiting_small: { (j : ℕ) → j < film.pages → slice_index cells.now j < 2 ^ 29 },

@@ -5,14 +5,16 @@ ghost use Rattle.feeding.specs.Laws.{ToldByStock, WholeRoom, EnoughRoom, StocksA
 ghost use Rattle.feeding.specs.Viewings.{Views};
 
 use std::alloc::{AllocError, Global};
-use viewing::Viewing;
+use view::follow;
+use viewing::{Stop, Viewing};
 
 mod phases;
 mod view;
 pub mod viewing;
 
 // Tunes a receiver and feeds it lines, one a slot, until the film is whole, the lines end or a call is refused. Its promises
-// beside the first are laws of every feeding in which no page starves.
+// beside the first are laws of every feeding in which no page starves. The memory for the viewing is taken before anything is fed.
+#[tactic(auto, using(crate::proofs::Runs::told_by_stock, crate::proofs::Story::whole_room, crate::proofs::Story::enough_room, crate::proofs::Story::stocks_are_arrivals, crate::proofs::Story::peak_is_top))]
 pub fn feed(
     heap: Global,
     delay: u16,
@@ -29,5 +31,12 @@ pub fn feed(
     ensures less_room_is_refused { LessRoom }
     ensures peak_is_top { PeakIsTop }
 {
-    view::view(heap, delay, pages, capacity, store, lines)
+    let mut viewing = Viewing {
+        shows: Vec::with_capacity(heap, lines.len())?,
+        stocks: Vec::with_capacity(heap, lines.len())?,
+        peak: 0,
+        stop: Ok(Stop::LinesEnded),
+    };
+    viewing.stop = follow(delay, pages, capacity, store, lines, &mut viewing);
+    Ok(viewing)
 }

@@ -24,6 +24,7 @@ pub enum Fault {
 
 impl Fault {
     // The number of the fault and its byte, or `None` for want of memory, which is no fault of the file.
+    // Kept so: the rules give each fault a number.
     pub fn number_and_byte(&self) -> Option<(u8, usize)>
         ensures is_told { MatchOption result (self.now ≡ OutOfMemory) (λ p. told self.now ≡ (p.0, p.1 ∷ [])) }
     {

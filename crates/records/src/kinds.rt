@@ -28,7 +28,7 @@ pub struct Channel {
 }
 
 // A page that a channel carries in the slots start, start + period, start + 2 * period and so on.
-#[derive(Clone, Copy, Debug, PartialEq, Eq)]
+#[derive(Clone, Copy, Debug, Default, PartialEq, Eq)]
 pub struct Row {
     pub page: u16,
     pub channel: u8,

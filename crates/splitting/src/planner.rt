@@ -78,23 +78,17 @@ fn place_pages(bag: &mut Bag<FreeSequence>, rows: &mut [Row], delay: u16) -> Res
 }
 
 // The plan in the first rows, and its period. What it leaves in the other rows, where it refuses, and in the bag is open.
-fn fill(
-    delay: u16,
-    channels: u8,
-    pages: u16,
-    rows: &mut [Row],
-    bag: &mut Bag<FreeSequence>,
-) -> Result<u32, Refusal>
-    requires askable { Askable delay channels pages }
-    ensures plan_or_none { FillAnswer delay channels pages (room bag.old) rows.old rows.new result }
+fn fill(film: Film, rows: &mut [Row], bag: &mut Bag<FreeSequence>) -> Result<u32, Refusal>
+    requires askable { Askable film.delay film.channels film.pages }
+    ensures plan_or_none { FillAnswer film.delay film.channels film.pages (room bag.old) rows.old rows.new result }
     ensures same_memory { SameMemory bag.old bag.new }
 {
-    let count = usize::from(pages);
+    let count = usize::from(film.pages);
     if rows.len() < count {
         return Err(Refusal::NoRoom);
     }
-    put_channels(bag, channels).map_err(|_full| Refusal::NoRoom)?;
-    place_pages(bag, &mut rows[..count], delay)?;
+    put_channels(bag, film.channels).map_err(|_full| Refusal::NoRoom)?;
+    place_pages(bag, &mut rows[..count], film.delay)?;
     rows_period(&rows[..count])
 }
 
@@ -102,15 +96,10 @@ fn fill(
 fn clear_rows(rows: &mut [Row])
     ensures all_zero { AllZero rows.new }
 {
-    rows.fill(Row {
-        page: 0,
-        channel: 0,
-        start: 0,
-        period: 0,
-    });
+    rows.fill(Row::default());
 }
 
-// Kept so: callers have three numbers, and no film before they are known to be in range.
+// Kept so: the three numbers of the film are the public signature, which callers have.
 // Plans a film of 1 to 1,024 pages for a delay of 1 to 1,024 slots on 1 to 8 channels. The first rows, one for each page, are
 // then the plan, and the answer is its period. The bag is for the sequences that are free while the pages are placed.
 pub fn plan(
@@ -134,7 +123,7 @@ pub fn plan(
     if !film.is_in_range() {
         return Err(Refusal::OutOfRange);
     }
-    let filled = fill(delay, channels, pages, rows, bag);
+    let filled = fill(film, rows, bag);
     bag.clear();
     if filled.is_err() {
         clear_rows(rows);

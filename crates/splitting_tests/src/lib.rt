@@ -43,13 +43,6 @@ mod tests {
         period: 9,
     };
 
-    const NO_ROW: Row = Row {
-        page: 0,
-        channel: 0,
-        start: 0,
-        period: 0,
-    };
-
     #[test]
     fn findings_come_by_page_and_slot(rt: HostRuntime) {
         let mut places = [Finding { page: 7, slot: 7 }; 3];
@@ -146,7 +139,7 @@ mod tests {
         let _ = bag.put(OLD_PLACE);
         plan(delay, channels, pages, rows, &mut bag) == Err(refusal)
             && bag.len() == 0
-            && rows.iter().all(|row| *row == NO_ROW)
+            && rows.iter().all(|row| *row == Row::default())
     }
 
     #[test]

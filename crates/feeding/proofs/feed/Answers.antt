@@ -1,15 +1,11 @@
-use Rattle.feeding.proofs.Runs.{told_by_stock}
-use Rattle.feeding.proofs.Story.{whole_room, enough_room, stocks_are_arrivals, less_room, peak_is_top}
+use Rattle.feeding.proofs.Story.{less_room}
 use Rattle.feeding.proofs.feed.Goals as goal
 
-pub returns : goal.returns
-returns c =
-    record {
-      feeds = c.view.ensures.feeds;
-      stock_decides = told_by_stock;
-      whole_room_is_enough = whole_room;
-      enough_room = enough_room;
-      stocks_are_arrivals = stocks_are_arrivals;
-      less_room_is_refused = less_room;
-      peak_is_top = peak_is_top;
-    }
+pub returns-in_err-with_capacity-clause-less_room_is_refused : goal.returns-in_err-with_capacity-clause-less_room_is_refused
+returns-in_err-with_capacity-clause-less_room_is_refused c = less_room
+
+pub returns-in_err-with_capacity-2-clause-less_room_is_refused : goal.returns-in_err-with_capacity-2-clause-less_room_is_refused
+returns-in_err-with_capacity-2-clause-less_room_is_refused c = less_room
+
+pub returns-clause-less_room_is_refused : goal.returns-clause-less_room_is_refused
+returns-clause-less_room_is_refused c = less_room

@@ -21,37 +21,37 @@ use Rattle.splitting.proofs.planner.fill.Goals as goal
 
 pub place_pages-requires-clause-all_usable : goal.place_pages-requires-clause-all_usable
 place_pages-requires-clause-all_usable c =
-    let put : IsPermutation (whole_channels c.args.channels) (held c.put_channels.new.bag) = search rules in
-    All-permutation (Usable c.args.delay) (whole_channels c.args.channels) (held c.put_channels.new.bag) put (channels_usable c.args.delay c.args.channels c.requires.askable.delay.0)
+    let put : IsPermutation (whole_channels c.args.film.channels) (held c.put_channels.new.bag) = search rules in
+    All-permutation (Usable c.args.film.delay) (whole_channels c.args.film.channels) (held c.put_channels.new.bag) put (channels_usable c.args.film.delay c.args.film.channels c.requires.askable.delay.0)
 
 pub returns-in_err-place_pages-clause-plan_or_none : goal.returns-in_err-place_pages-clause-plan_or_none
 returns-in_err-place_pages-clause-plan_or_none c =
-    let m = c.args.delay in
-    let n = c.args.pages in
+    let m = c.args.film.delay in
+    let n = c.args.film.pages in
     let rows = c.args.rows.now in
     let most = room c.args.bag.now in
-    let free = whole_channels c.args.channels in
+    let free = whole_channels c.args.film.channels in
     let whole = held c.put_channels.new.bag in
     let put : IsPermutation free whole = search rules in
     let e = c.in_err-place_pages.field-0.0 in
     let here : length (take c.from-count.result rows) ≡ n = omega (arith, length-take-le c.from-count.result rows (omega arith)) in
-    let enough : Enough c.args.channels n (length rows) most =
-    record { rows = omega arith; places = channels_fit c.args.channels most whole put (omega (arith, held_within c.put_channels.new.bag)) } in
+    let enough : Enough c.args.film.channels n (length rows) most =
+    record { rows = omega arith; places = channels_fit c.args.film.channels most whole put (omega (arith, held_within c.put_channels.new.bag)) } in
     let refuses = subst (λ (k : ℕ). Refuses m (room c.put_channels.new.bag) whole k (told e)) here c.in_err-place_pages.ensures.rows_or_refusal in
     let placed = subst (λ (k : ℕ). Refuses m k whole n (told e)) c.put_channels.ensures.same_memory.same_room refuses in
-    exit (Plan m c.args.channels n most rows (c.place_pages.new.rows ++ drop c.from-count.result rows))
-    (λ e. NoPlan m c.args.channels n (length rows) most (told e))
+    exit (Plan m c.args.film.channels n most rows (c.place_pages.new.rows ++ drop c.from-count.result rows))
+    (λ e. NoPlan m c.args.film.channels n (length rows) most (told e))
     c.from_residual-in_err-place_pages.result e c.from_residual-in_err-place_pages.ensures.1
     (inr (inl (enough, refuses_from m most free whole put n (told e) placed)))
 
 pub returns-clause-plan_or_none : goal.returns-clause-plan_or_none
 returns-clause-plan_or_none c =
-    let m = c.args.delay in
-    let n = c.args.pages in
+    let m = c.args.film.delay in
+    let n = c.args.film.pages in
     let rows = c.args.rows.now in
     let count = c.from-count.result in
     let most = room c.args.bag.now in
-    let free = whole_channels c.args.channels in
+    let free = whole_channels c.args.film.channels in
     let whole = held c.put_channels.new.bag in
     let left = held c.place_pages.new.bag in
     let put : IsPermutation free whole = search rules in
@@ -59,12 +59,12 @@ returns-clause-plan_or_none c =
     let after : List Row = planned ++ drop count rows in
     let here : length (take count rows) ≡ n = omega (arith, length-take-le count rows (omega arith)) in
     let long : length planned ≡ count = omega (arith, length-take-le count rows (omega arith)) in
-    let enough : Enough c.args.channels n (length rows) most =
-    record { rows = omega arith; places = channels_fit c.args.channels most whole put (omega (arith, held_within c.put_channels.new.bag)) } in
+    let enough : Enough c.args.film.channels n (length rows) most =
+    record { rows = omega arith; places = channels_fit c.args.film.channels most whole put (omega (arith, held_within c.put_channels.new.bag)) } in
     let splits = subst (λ (k : ℕ). Splits m (room c.put_channels.new.bag) whole k planned left) here c.in_ok-place_pages.ensures.rows_or_refusal in
     let from = splits_from m most free whole put n planned left
     (subst (λ (k : ℕ). Splits m k whole n planned left) c.put_channels.ensures.same_memory.same_room splits) in
     let kept = splits_kept m most free n planned after left (λ k d low. get_or-append planned (drop count rows) d k (omega (arith, long, c.from-count.ensures))) from in
-    filled m c.args.channels n most rows after left c.requires.askable enough (omega (arith, length-append planned (drop count rows), length-drop count rows)) kept
+    filled m c.args.film.channels n most rows after left c.requires.askable enough (omega (arith, length-append planned (drop count rows), length-drop count rows)) kept
     (drop-append-drop count rows planned n (omega arith) long) c.rows_period.result
     (subst (λ (k : ℕ). RowsPeriod (take k after) c.rows_period.result) c.from-count.ensures c.rows_period.ensures.least_common_multiple)

@@ -2,7 +2,7 @@ use Rattle.std.proofs.Common.{◌≡◌, ◌<◌, ◌≤◌}
 use Rattle.timetable.specs.Closed.{line}
 use Rattle.survey.specs.Cells.{Comings}
 use Rattle.survey.specs.Surveys.{peak_from, Peak, Airable}
-use Rattle.survey.proofs.guarded.greatest_peak.Given as goal
+use Rattle.survey.proofs.greatest.greatest_peak.Given as goal
 
 abbrev pub invariant-loop-after : goal.invariant-loop-after
 invariant-loop-after g l = (l.period ≤ l.after) × Comings (line (g.T.Timetable.meaning l.table)) l.film l.after l.end l.nexts

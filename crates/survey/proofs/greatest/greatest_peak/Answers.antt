@@ -7,7 +7,7 @@ use Rattle.survey.specs.Surveys.{peak_from, Airable}
 use Rattle.survey.proofs.Nexts.{comings_step}
 use Rattle.survey.proofs.Serving.{sound_serves}
 use Rattle.survey.proofs.Peaks.{peak_takes, peak_keeps, turn}
-use Rattle.survey.proofs.guarded.greatest_peak.Goals as goal
+use Rattle.survey.proofs.greatest.greatest_peak.Goals as goal
 
 pub loop-after-preserved : goal.loop-after-preserved
 loop-after-preserved g c =
