@@ -14,7 +14,7 @@ mod performing;
 
 // A timetable that sends a film of so many pages with such a delay, and the entries of it that are closed. The mark is the
 // number of the house.
-// Kept so: the clauses name the state as `seen (T.meaning s.table) s`, since an impl Model cannot name the bound's meaning.
+// Kept so: the clauses name the state as `seen (T.meaning s.table) s`: a model's Value has to be data with a code, and a timetable's meaning holds functions.
 #[derive(Drop)]
 pub struct Station<T> {
     delay: u16,

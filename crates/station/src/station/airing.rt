@@ -9,9 +9,6 @@ use crate::phase::Phase;
 use crate::refusal::Refusal;
 use timetable::interface::Timetable;
 
-// The slot at which the clock ends: it is not sent any more.
-const LAST_SLOT: u32 = 4_294_967_295;
-
 // Writes what is sent in a slot, channel by channel, into the first places of the list.
 fn write_line<T: Timetable>(table: &T, slot: u32, list: &mut [u16])
     requires room { (T.meaning table.now).channels ≤ length list.old }
@@ -48,11 +45,9 @@ impl<T: Timetable> Station<T> {
         if list.len() < usize::from(self.table.channels()) {
             return Err(Refusal::ShortList);
         }
-        if clock >= LAST_SLOT {
-            return Err(Refusal::ClockFull);
-        }
+        let next = clock.checked_add(1).ok_or(Refusal::ClockFull)?;
         write_line(&self.sent(), clock, list);
-        self.phase = Phase::OnAir(clock + 1);
+        self.phase = Phase::OnAir(next);
         Ok(clock)
     }
 

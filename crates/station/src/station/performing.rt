@@ -34,17 +34,14 @@ fn close_answer(res: Result<Slip, Refusal>) -> Result<Answer, Refusal>
 }
 
 // The answer of opening again; a slip that is handed back is kept.
-// Kept so: a refused slip has to be kept before the refusal is handed on, and two closures for the two cases are no plainer.
 fn reopen_answer(res: Result<(), (Refusal, Slip)>) -> Result<Answer, Refusal>
     ensures tells_result { answered result ≡ by_reopen res }
 {
-    match res {
-        Ok(()) => Ok(Answer::Reopened),
-        Err((refusal, slip)) => {
-            slip.keep();
-            Err(refusal)
-        }
-    }
+    res.map_err(|(refusal, slip)| {
+        slip.keep();
+        refusal
+    })?;
+    Ok(Answer::Reopened)
 }
 
 fn survey_answer(res: Result<(u16, u32), Refusal>) -> Result<Answer, Refusal>
@@ -137,7 +134,7 @@ impl<T: Timetable> Station<T> {
     ) -> Result<Reply, AllocError>
         ensures does { IfOk result (λ reply. Does (seen (T.meaning self.now.table) self.now) (FindingsCall scratch places) (replied reply) (seen (T.meaning self.now.table) self.now)) }
     {
-        let mut records = Vec::from_elem(heap, Finding { page: 0, slot: 0 }, places)?;
+        let mut records = Vec::from_elem(heap, Finding::default(), places)?;
         let mut bag = Bag::over(records.as_mut_slice());
         let result = self.findings(scratch.as_mut_slice(), &mut bag);
         Ok(Reply {
