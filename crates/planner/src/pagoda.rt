@@ -6,6 +6,7 @@ use records::kinds::Channel;
 
 pub mod calls;
 mod deal;
+mod progress;
 
 // A pagoda plan: each channel lends its slots to its subchannels in turn, and each subchannel carries some pages.
 #[derive(Drop)]
