@@ -48,6 +48,7 @@ fn first_wrong(nodes: &[Node]) -> Option<usize>
         .position(|(number, node)| !is_right(*node, number, count))
 }
 
+// Kept so: rows have their periods each in a row, and no heap to list them in; one function for rows and nodes would take each number from a closure and promise by what that answers, which is longer than these lines.
 // The period that some cycles have together, of which none is 0; `None` as soon as it is too long.
 fn all_joined(cycles: &[u32]) -> Option<u32>
     requires positive { AllPeriods cycles.now }

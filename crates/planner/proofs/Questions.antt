@@ -1,10 +1,9 @@
 -- What a pagoda plan keeps answers its questions.
-use Rattle.std.proofs.Common.{◌≡◌, ℕ, suc, ◌+◌, ◌-◌, ◌/◌, ◌%◌, ◌<◌, ◌≤◌, List, length, get_or, sym, ap, arith}
+use Rattle.std.proofs.Common.{◌≡◌, ℕ, suc, ◌+◌, ◌<◌, ◌≤◌, List, length, get_or, ap, arith}
 use Rattle.std.proofs.lemmas.List.{get_or_read}
 use Rattle.records.specs.declared.kinds.Channel.{Channel}
-use Rattle.planner.specs.Pagoda.{Deals, count_at, begins, share_of, first_of, pagoda}
+use Rattle.planner.specs.Pagoda.{Deals, count_at, begins, share_of, first_of}
 use Rattle.planner.proofs.Channels.{first_of_grows}
-use Rattle.planner.proofs.PagodaPlans.{pagoda_at}
 
 pub count_read : (cs : List Channel) (i : ℕ) (x : Channel) → i < length cs → x ≡ get_or cs i x → x.subchannels ≡ count_at cs i
 count_read cs i x h e = ap (λ (c : Channel). c.subchannels) (get_or_read cs i x h e (record { subchannels = 0 }))
@@ -18,8 +17,3 @@ module _ (m : ℕ) (cs : List Channel) (n : ℕ) (deals : Deals m cs n) where
   pub subchannel_high : (k j : ℕ) → k < n → j < count_at cs k → first_of m (count_at cs k) (begins m cs k) j + share_of m (count_at cs k) (begins m cs k) j ≤ 1025
   subchannel_high k j on turn =
       omega (arith, (deals k on).1, first_of_grows m (count_at cs k) (begins m cs k) (suc j) (count_at cs k) turn)
-
--- a page from what is kept
-pub answered : (m : ℕ) (cs : List Channel) (p k t s x q : ℕ) → Deals m cs (length cs) → 0 < p → 1 ≤ k → k ≤ length cs → s ≡ count_at cs (k - 1) → x ≡ first_of m (count_at cs (k - 1)) (begins m cs (k - 1)) (t % p % s) → q ≡ share_of m (count_at cs (k - 1)) (begins m cs (k - 1)) (t % p % s) → x + t % p / s % q ≡ (pagoda m cs p).page k t
-answered m cs p k t s x q deals some low high es ex eq =
-    rw (ex, eq, es) (sym (pagoda_at m cs deals p some k t low high))

@@ -5,8 +5,7 @@ use Rattle.std.proofs.lemmas.List.{length_push, get_or_push, get_or_append_left}
 use Rattle.records.specs.declared.kinds.Channel.{Channel}
 use Rattle.numbers.proofs.All.{lcm_all_none}
 use Rattle.planner.specs.Pagoda.{Takes, count_at, begins, cycles, first_of, share, share_of, channel_cycles, subchannels_of, laid}
-use Rattle.planner.specs.declared.pagoda.deal.Progress.{Progress}
-use Rattle.planner.proofs.Channels.{first_of_low}
+use Rattle.planner.specs.declared.pagoda.progress.Progress.{Progress}
 use Rattle.plans.specs.Periods.{PeriodOf}
 use Rattle.planner.specs.Dealing.{OneDealt, DealtTo}
 use Rattle.planner.specs.declared.subchannel.Subchannel.{Subchannel}
@@ -27,31 +26,27 @@ pub next_period : (m s f n : ℕ) (xs : List ℕ) (r : Option ℕ) (cycle : ℕ)
 next_period m s f n xs r cycle e h = rw (add-one n, ← append_assoc, ← e) h
 
 -- before the first channel
-pub dealt_none : (m : ℕ) (cs : List Channel) → DealtTo m cs 0 [] (record { first = 1; period = Some 1 })
+pub dealt_none : (m : ℕ) (cs : List Channel) → DealtTo m cs 0 [] 1 (Some 1)
 dealt_none m cs = record {
   next = refl;
-  low = omega arith;
-  high = omega arith;
   deals = λ i h. absurd (omega (arith, h));
   lists = refl;
   together = (lcm_all_none, omega arith, omega arith);
 }
 
 -- one channel more
-dealt_more : (m : ℕ) (cs : List Channel) (k : ℕ) (all : List (List Subchannel)) (xs : List Subchannel) (p q : Progress) → DealtTo m cs k all p → Takes m (count_at cs k) (begins m cs k) → OneDealt m (count_at cs k) (begins m cs k) p.period xs q → DealtTo m cs (k + 1) (all ++ (xs ∷ [])) q
-dealt_more m cs k all xs p q h t d = record {
+dealt_more : (m : ℕ) (cs : List Channel) (k : ℕ) (all : List (List Subchannel)) (xs : List Subchannel) (first : ℕ) (period : Option ℕ) (q : Progress) → DealtTo m cs k all first period → Takes m (count_at cs k) (begins m cs k) → OneDealt m (count_at cs k) (begins m cs k) period xs q → DealtTo m cs (k + 1) (all ++ (xs ∷ [])) q.first q.period
+dealt_more m cs k all xs first period q h t d = record {
   next = rw (add-one k) d.next;
-  low = omega (arith, d.next, first_of_low m (count_at cs k) (begins m cs k) (count_at cs k), h.next, h.low);
-  high = d.high;
-  deals = below_more _ _ h.deals (t, omega (arith, d.next, d.high));
+  deals = below_more _ _ h.deals (t, omega (arith, d.next, q.in_range));
   lists = rw (add-one k, h.lists, d.subchannels) refl;
   together = rw (add-one k) (d.together (cycles m cs k) h.together);
 }
 
 -- the same, from what the code has: the progress so far says where the channel begins
-pub dealt_next : (m : ℕ) (cs : List Channel) (k s : ℕ) (all : List (List Subchannel)) (xs : List Subchannel) (p q : Progress) → s ≡ count_at cs k → DealtTo m cs k all p → Takes m s p.first → OneDealt m s p.first p.period xs q → DealtTo m cs (k + 1) (all ++ (xs ∷ [])) q
-dealt_next m cs k s all xs p q count h t d =
-    dealt_more m cs k all xs p q h (rw (← count, ← h.next) t) (rw (← count, ← h.next) d)
+pub dealt_next : (m : ℕ) (cs : List Channel) (k s : ℕ) (all : List (List Subchannel)) (xs : List Subchannel) (delay first : ℕ) (period : Option ℕ) (q : Progress) → delay ≡ m → s ≡ count_at cs k → DealtTo m cs k all first period → Takes delay s first → OneDealt delay s first period xs q → DealtTo m cs (k + 1) (all ++ (xs ∷ [])) q.first q.period
+dealt_next m cs k s all xs delay first period q at count h t d =
+    dealt_more m cs k all xs first period q h (rw (← count, ← h.next, ← at) t) (rw (← count, ← h.next, ← at) d)
 
 -- how many subchannels a channel has, and each of them
 pub many_of : (m s f n : ℕ) → length (subchannels_of m s f n) ≡ n

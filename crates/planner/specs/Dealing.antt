@@ -1,19 +1,19 @@
 -- What the steps of dealing pages leave.
-use Rattle.std.specs.Prelude.{◌≡◌, ℕ, ◌<◌, ◌≤◌, ◌⊎◌, List, [], ◌++◌, length, map, vec_items, Option, Result, MatchResult}
+use Rattle.std.specs.Prelude.{◌≡◌, ℕ, ◌<◌, ◌⊎◌, List, [], ◌++◌, length, map, vec_items, Option, Result, MatchResult}
 use Rattle.std.specs.Global.{Vec}
 use Rattle.records.specs.declared.kinds.Channel.{Channel}
 use Rattle.planner.specs.Pagoda.{Deals, BadChannel, laid, subchannels_of, first_of, begins, channel_cycles, cycles}
 use Rattle.plans.specs.Periods.{PeriodOf}
 use Rattle.plans.specs.Refusals.{told}
-use Rattle.planner.specs.declared.pagoda.deal.Progress.{Progress}
+use Rattle.planner.specs.declared.pagoda.progress.Progress.{Progress}
 use Rattle.plans.specs.declared.refusal.Refusal.{Refusal}
 use Rattle.planner.specs.declared.subchannel.Subchannel.{Subchannel}
 
 -- one channel is dealt its pages, xs in its subchannels, and p is what comes after
 pub record OneDealt (m s f : ℕ) (period : Option ℕ) (xs : List Subchannel) (p : Progress) : Type 0 where
   pub subchannels : xs ≡ subchannels_of m s f s
+  pub delay : p.delay ≡ m
   pub next : p.first ≡ first_of m s f s
-  pub high : p.first ≤ 1025
   pub together : (ns : List ℕ) → PeriodOf ns period → PeriodOf (ns ++ channel_cycles m s f s) p.period
 
 -- or its pages pass 1,024, told by 3; or there is no memory
@@ -23,16 +23,14 @@ ChannelDealt m s f period answer =
     (λ e. ((told e ≡ (3, [])) × (1025 < first_of m s f s)) ⊎ (told e ≡ (0, [])))
 
 -- the first k channels are dealt their pages
-pub record DealtTo (m : ℕ) (cs : List Channel) (k : ℕ) (all : List (List Subchannel)) (p : Progress) : Type 0 where
-  pub next : p.first ≡ begins m cs k
-  pub low : 1 ≤ p.first
-  pub high : p.first ≤ 1025
+pub record DealtTo (m : ℕ) (cs : List Channel) (k : ℕ) (all : List (List Subchannel)) (first : ℕ) (period : Option ℕ) : Type 0 where
+  pub next : first ≡ begins m cs k
   pub deals : Deals m cs k
   pub lists : all ≡ laid m cs k
-  pub together : PeriodOf (cycles m cs k) p.period
+  pub together : PeriodOf (cycles m cs k) period
 
 -- all channels are, or one gets no pages, or there is no memory
 abbrev pub AllDealt : ℕ → List Channel → Result (Vec (Vec Subchannel) × Progress) Refusal → Type 0
 AllDealt m cs answer =
-    MatchResult answer (λ r. DealtTo m cs (length cs) (map vec_items (vec_items r.0)) r.1)
+    MatchResult answer (λ r. DealtTo m cs (length cs) (map vec_items (vec_items r.0)) r.1.first r.1.period)
     (λ e. BadChannel m cs (told e) ⊎ (told e ≡ (0, [])))

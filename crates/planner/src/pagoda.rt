@@ -6,6 +6,7 @@ use records::kinds::Channel;
 
 pub mod calls;
 mod deal;
+mod progress;
 
 // A pagoda plan: each channel lends its slots to its subchannels in turn, and each subchannel carries some pages.
 #[derive(Drop)]
@@ -14,6 +15,7 @@ pub struct Pagoda {
     pages: u16,
     period: u32,
     channels: Vec<Channel>,
+    // Kept so: a plan means what was asked for, and each count is at hand as it was asked for; from the lists alone the counts would be lengths to narrow, in the meaning and in every promise, with a lemma that they are those that were asked for.
     // the subchannels of each channel
     dealt: Vec<Vec<Subchannel>>,
     ghost few: { vec_len channels ≤ 8 },

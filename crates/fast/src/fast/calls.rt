@@ -56,7 +56,7 @@ impl Timetable for Fast {
     }
 
     fn page_at(&self, channel: u8, slot: u32) -> u16 {
-        if channel == 0 || channel > self.channels {
+        if !(1..=self.channels).contains(&channel) {
             return 0;
         }
         let first = doubled(channel - 1);

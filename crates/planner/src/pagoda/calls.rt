@@ -9,6 +9,7 @@ use plans::refusal::Refusal;
 use records::kinds::Channel;
 use std::alloc::Global;
 use timetable::interface::Timetable;
+use timetable::turns::turn_in;
 
 // Whether a plan may be asked for with a delay and so many channels.
 fn askable(delay: u16, channels: &[Channel]) -> bool
@@ -86,13 +87,12 @@ impl Timetable for Pagoda {
     }
 
     fn page_at(&self, channel: u8, slot: u32) -> u16 {
-        let number = usize::from(channel);
-        if number == 0 || number > self.channels.len() {
+        let Some(place) = turn_in(self.channels(), self.period, channel, slot) else {
             return 0;
-        }
-        let subchannels = self.count(number - 1);
-        let place = slot % self.period;
-        let own = self.subchannel(number - 1, place % subchannels);
+        };
+        let index = usize::from(channel) - 1;
+        let subchannels = self.count(index);
+        let own = self.subchannel(index, place % subchannels);
         own.first + (place / subchannels % u32::from(own.pages)) as u16
     }
 }
