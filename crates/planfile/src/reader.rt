@@ -14,6 +14,7 @@ use records::kinds::*;
 use std::alloc::Global;
 
 // The length of the body of a record of this kind, where there is such a kind.
+// Kept so: the fixed file format numbers the kinds.
 fn length_of_kind(kind: u8) -> Option<usize>
     ensures is_kind_length { KindLength kind result }
 {
@@ -66,21 +67,26 @@ fn read_parts(heap: Global, bytes: &[u8], at: usize) -> Result<(Parts, usize), F
     Err(misfit(bytes, at))
 }
 
-// Kept so: a function of its own, so that the theorems that follow from its promise are proved once over it, and not at each of its returns.
+// The plan that a file holds, or the first fault that it has.
+// Kept so: `no_other_answer` of the function below follows from `answers` alone; here it would be proved at each of the nine returns, in place of once.
 fn parse_plan(heap: Global, bytes: &[u8]) -> Result<Plan, Fault>
     ensures answers { Answers bytes.now result }
 {
     if bytes.len() > MOST_BYTES {
         return Err(Fault::TooLong);
     }
-    let Some((film, after_film)) = read_record::<Film>(bytes, 0)? else {
-        return Err(misfit(bytes, 0));
-    };
+    let (film, after_film) = read_record::<Film>(bytes, 0)?.ok_or_else(
+        ||
+            ensures is_wrong { Misfit bytes.entry.now 0 result }
+        { misfit(bytes, 0) },
+    )?;
     let (parts, after_parts) = read_parts(heap, bytes, after_film)?;
     let (closures, after_closures) = read_run::<Closure>(heap, bytes, after_parts, MOST_CLOSURES)?;
-    let Some((End {}, after_end)) = read_record::<End>(bytes, after_closures)? else {
-        return Err(misfit(bytes, after_closures));
-    };
+    let (End {}, after_end) = read_record::<End>(bytes, after_closures)?.ok_or_else(
+        ||
+            ensures is_wrong { Misfit bytes.entry.now after_closures result }
+        { misfit(bytes, after_closures) },
+    )?;
     if after_end < bytes.len() {
         return Err(Fault::AfterEnd(after_end));
     }
@@ -91,7 +97,7 @@ fn parse_plan(heap: Global, bytes: &[u8]) -> Result<Plan, Fault>
     })
 }
 
-// The plan that a file holds, or the first fault that it has.
+// The same, and no answer but that one is right.
 pub fn read_plan(heap: Global, bytes: &[u8]) -> Result<Plan, Fault>
     ensures answers { Answers bytes.now result }
     ensures no_other_answer { OnlyAnswer bytes.now result }
