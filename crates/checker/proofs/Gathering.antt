@@ -1,59 +1,47 @@
 -- The findings that are gathered from the numbers of the pages are those of the timetable.
-use Rattle.std.proofs.Common.{◌≡◌, ℕ, zero, suc, ◌+◌, ◌-◌, ◌<◌, ◌≤◌, List, [], ◌∷◌, ◌++◌, length, All, Contains, sym, refl, ap, ◌∙◌, subst, ⊎_elim, append-nil, add-one, arith, length-append}
-use Rattle.std.specs.List.Sorted.{IsPermutation}
+use Rattle.std.proofs.Common.{filter_map, Option, Some, None, ◌≡◌, ℕ, zero, suc, ◌+◌, ◌<◌, ◌≤◌, List, [], ◌∷◌, ◌++◌, All, Contains, sym, refl, ap, ◌∙◌, subst, ⊎_elim, append-nil, add-one, arith}
 use Rattle.std.proofs.lemmas.List.Elements.{All-nil, All-head, All-tail, All-push, All-weaker, Contains-push, Contains-append_left}
-use Rattle.std.proofs.lemmas.List.Sorted.{IsPermutation-cons, IsPermutation-trans, IsPermutation-to_front, length_permutation}
 use Rattle.std.proofs.lemmas.Bool.{cases_lt, cases_order}
+use Rattle.std.specs.List.{range_with_len}
+use Rattle.std.proofs.lemmas.List.Elements.{filter_map-append}
 use Rattle.timetable.specs.Meaning.{Meaning, Lawful}
 use Rattle.timetable.specs.Windows.{FirstSlot}
 use Rattle.bag.specs.declared.finding.Finding.{Finding}
 use Rattle.checker.specs.Findings.{Ascending, Findings}
-use Rattle.checker.specs.Sweep.{known, Heard, sweep_end, finding, gathered}
+use Rattle.checker.specs.Sweep.{known, Tells, Heard, sweep_end, finding, gathered}
 use Rattle.checker.proofs.Ending.{never_starves, starves_first}
 
--- what is told of a page that starves
-told_some : (p v : ℕ) (f : Finding) → (f.page ≡ p) × (v ≡ f.slot + 1) → finding p v ≡ f ∷ []
-told_some p v f h = ap (λ x. finding p x) (h.1 ∙ add-one f.slot) ∙ ap (λ q. record { page = q; slot = f.slot } ∷ []) (sym h.0)
+-- what is told of page p by its number
+abbrev pub telling : ℕ → ℕ → Option Finding
+telling p zero = None
+telling p (suc s) = Some (record { page = p; slot = s })
 
-module _ (m n end : ℕ) (xs : List ℕ) where
-  -- one more than the first starving slot of the page of place j, at the end
-  abbrev miss : ℕ → ℕ
-  miss j = known m n end xs j
+pub telling_is : (p v : ℕ) (o : Option Finding) → Tells p v o → o ≡ telling p v
+telling_is p v None h = sym (ap (telling p) h)
+telling_is p v (Some f) h = sym (ap (λ x. telling p x) (h.1 ∙ add-one f.slot) ∙ ap (λ q. Some (record { page = q; slot = f.slot })) (sym h.0))
 
-  gathered_next : (j : ℕ) → gathered m n end xs (j + 1) ≡ gathered m n end xs j ++ finding (j + 1) (miss j)
-  gathered_next j = ap (λ i. gathered m n end xs i) (add-one j)
+telling_one : (p v : ℕ) → filter_map (λ (i : ℕ). telling p v) (zero ∷ []) ≡ finding p v
+telling_one p zero = refl
+telling_one p (suc s) = refl
 
-  -- one page more, which does not starve
-  pub gathered_none : (j : ℕ) (ys : List Finding) → miss j ≡ 0 → IsPermutation (gathered m n end xs j) ys → IsPermutation (gathered m n end xs (j + 1)) ys
-  gathered_none j ys z h =
-      let same : gathered m n end xs (j + 1) ≡ gathered m n end xs j = gathered_next j ∙ ap (λ v. gathered m n end xs j ++ finding (j + 1) v) z ∙ append-nil _ in
-      subst (λ fs. IsPermutation fs ys) (sym same) h
+-- what is told of the page of place j, at the end
+abbrev pub told_at : ℕ → ℕ → ℕ → List ℕ → ℕ → Option Finding
+told_at m n end xs j = telling (j + 1) (known m n end xs j)
 
-  module _ (j : ℕ) (f : Finding) (told : (f.page ≡ j + 1) × (miss j ≡ f.slot + 1)) where
-    gathered_last : gathered m n end xs (j + 1) ≡ gathered m n end xs j ++ f ∷ []
-    gathered_last = gathered_next j ∙ ap (λ fs. gathered m n end xs j ++ fs) (told_some (j + 1) (miss j) f told)
+-- counting from a, the last of n + 1 numbers
+counted_last : (a n j : ℕ) → a + n ≡ j → range_with_len a (suc n) ≡ range_with_len a n ++ j ∷ []
+counted_last a zero j e = let same : a ≡ j = omega arith in ap (λ x. x ∷ []) same
+counted_last a (suc n) j e = ap (λ ys. a ∷ ys) (counted_last (a + 1) n j (omega arith))
 
-    -- one page more, whose finding was put
-    pub gathered_put : (ys zs : List Finding) → IsPermutation (gathered m n end xs j) ys → IsPermutation (f ∷ ys) zs → IsPermutation (gathered m n end xs (j + 1)) zs
-    gathered_put ys zs h put =
-        subst (λ fs. IsPermutation fs zs) (sym gathered_last)
-        (IsPermutation-trans _ _ _ (IsPermutation-to_front (gathered m n end xs j) f) (IsPermutation-trans _ _ _ (IsPermutation-cons f _ ys h) put))
-
-  grows : (j d : ℕ) → length (gathered m n end xs j) ≤ length (gathered m n end xs (j + d))
-  grows j zero = let e : j ≡ j + zero = omega arith in subst (λ x. length (gathered m n end xs j) ≤ length (gathered m n end xs x)) e (omega arith)
-  grows j (suc d) =
-      let e : suc (j + d) ≡ j + suc d = omega arith in
-      let h = grows j d in
-      subst (λ x. length (gathered m n end xs j) ≤ length (gathered m n end xs x)) e (simp length-append (omega arith))
-
-  -- where one more is to come and the bag has no place for it, there are more findings than places
-  pub gathered_full : (j r : ℕ) (f : Finding) (ys : List Finding) → (f.page ≡ j + 1) × (miss j ≡ f.slot + 1) → j < n → IsPermutation (gathered m n end xs j) ys → length ys ≡ r → r < length (gathered m n end xs n)
-  gathered_full j r f ys told lt h full =
-      let top : (j + 1) + (n - (j + 1)) ≡ n = omega arith in
-      let grown : length (gathered m n end xs (j + 1)) ≤ length (gathered m n end xs n) = subst (λ x. length (gathered m n end xs (j + 1)) ≤ length (gathered m n end xs x)) top (grows (j + 1) (n - (j + 1))) in
-      let more : length (gathered m n end xs (j + 1)) ≡ length (gathered m n end xs j) + 1 = ap length (gathered_last j f told) ∙ length-append _ _ in
-      let same = length_permutation _ _ h in
-      omega arith
+-- the findings are what is told of the pages, one after the other
+pub told_gathered : (m n end : ℕ) (xs : List ℕ) (j : ℕ) → filter_map (told_at m n end xs) (range_with_len 0 j) ≡ gathered m n end xs j
+told_gathered m n end xs zero = refl
+told_gathered m n end xs (suc j) =
+    let h = told_at m n end xs in
+    ap (filter_map h) (counted_last 0 j j (omega arith))
+    ∙ filter_map-append h (range_with_len 0 j) (j ∷ [])
+    ∙ ap (λ fs. fs ++ filter_map h (j ∷ [])) (told_gathered m n end xs j)
+    ∙ ap (λ fs. gathered m n end xs j ++ fs) (telling_one (j + 1) (known m n end xs j))
 
 -- the findings among the first j pages
 record FindingsTo (X : Meaning) (m n j : ℕ) (fs : List Finding) : Type 0 where
@@ -103,7 +91,7 @@ module _ (X : Meaning) (m n j : ℕ) (fs : List Finding) (h : FindingsTo X m n j
   }
 
 module _ (X : Meaning) (L : Lawful X) (m n : ℕ) (xs : List ℕ) (pos : 1 ≤ X.period) (one : 1 ≤ m) (h : Heard X m n (sweep_end X m n) 1 xs) where
-  past : (j v : ℕ) (fs : List Finding) → j < n → miss m n (sweep_end X m n) xs j ≡ v → FindingsTo X m n j fs → FindingsTo X m n (suc j) (fs ++ finding (j + 1) v)
+  past : (j v : ℕ) (fs : List Finding) → j < n → known m n (sweep_end X m n) xs j ≡ v → FindingsTo X m n j fs → FindingsTo X m n (suc j) (fs ++ finding (j + 1) v)
   past j zero fs lt e before =
       subst (λ gs. FindingsTo X m n (suc j) gs) (sym (append-nil fs))
       (past_fed X m n j fs before (λ t f. never_starves X L m n xs pos one h j lt e t f.starves))
@@ -118,7 +106,7 @@ module _ (X : Meaning) (L : Lawful X) (m n : ℕ) (xs : List ℕ) (pos : 1 ≤ X
     ascending = tt;
     low = All-nil (λ f. f.page < 0 + 1);
   }
-  gathered_to (suc j) le = past j (miss m n (sweep_end X m n) xs j) (gathered m n (sweep_end X m n) xs j) (omega arith) refl (gathered_to j (omega arith))
+  gathered_to (suc j) le = past j (known m n (sweep_end X m n) xs j) (gathered m n (sweep_end X m n) xs j) (omega arith) refl (gathered_to j (omega arith))
 
   pub gathered_findings : Findings X m n (gathered m n (sweep_end X m n) xs n)
   gathered_findings =

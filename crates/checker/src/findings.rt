@@ -18,10 +18,8 @@ fn gather(swept: &Swept, bag: &mut Bag<Finding>) -> Result<(), Full>
     ensures all_or_full { Filled (gathered swept.now.film.delay swept.now.film.pages swept.now.end swept.now.cells.now swept.now.film.pages) bag.new result }
     ensures same_memory { SameMemory bag.old bag.new }
 {
-    for place in 0..swept.film.pages {
-        if let Some(finding) = swept.finding_at(place) {
-            bag.put(finding)?;
-        }
+    for finding in (0..swept.film.pages).filter_map(|place| swept.finding_at(place)) {
+        bag.put(finding)?;
     }
     Ok(())
 }
