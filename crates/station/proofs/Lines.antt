@@ -1,8 +1,8 @@
 -- Writing what is sent into a list, channel by channel.
-use Rattle.std.proofs.Common.{◌≡◌, ℕ, suc, ◌+◌, ◌<◌, ◌≤◌, List, ◌++◌, map, length, get_or, take, drop, set, sym, ap, ◌∙◌, append_assoc, append-nil, add-one, arith, drop-cons}
+use Rattle.std.proofs.Common.{◌≡◌, ℕ, suc, ◌+◌, ◌<◌, ◌≤◌, List, ◌++◌, map, length, get_or, drop, set, ap, ◌∙◌, append_assoc, append-nil, add-one, arith, drop-cons}
 use Rattle.std.specs.List.{range_with_len}
 use Rattle.std.proofs.lemmas.List.FromFn.{map-range_with_len_more, length-map-range_with_len}
-use Rattle.std.proofs.lemmas.List.{set_at, take_at, drop_all}
+use Rattle.std.proofs.lemmas.List.{set_at, drop_all}
 use Rattle.timetable.specs.Closed.{line}
 use Rattle.timetable.specs.Meaning.{Meaning}
 
@@ -22,17 +22,3 @@ pub line_whole : (X : Meaning) (t : ℕ) (xs ys : List ℕ) (i : ℕ) → i ≡ 
 line_whole X t xs ys i all end so_far =
     let f : ℕ → ℕ = λ n. X.page n t in
     so_far ∙ ap (λ zs. map f (range_with_len 1 i) ++ zs) (drop_all i ys end) ∙ append-nil (map f (range_with_len 1 i)) ∙ ap (λ n. map f (range_with_len 1 n)) all
-
-pub line_length : (X : Meaning) (t : ℕ) → length (line X t) ≡ X.channels
-line_length X t = length-map-range_with_len (λ k. X.page k t) 1 X.channels
-
--- the first places of such a list are the line
-pub line_front : (X : Meaning) (t : ℕ) (xs ys : List ℕ) → xs ≡ line X t ++ drop X.channels ys → take X.channels xs ≡ line X t
-line_front X t xs ys e = ap (λ zs. take X.channels zs) e ∙ take_at (line X t) (drop X.channels ys) X.channels (line_length X t)
-
--- and it is that line in front of the rest
-pub line_written : (X : Meaning) (t : ℕ) (xs ys : List ℕ) → xs ≡ line X t ++ drop X.channels ys → xs ≡ take X.channels xs ++ drop (length (take X.channels xs)) ys
-line_written X t xs ys e =
-    let front = line_front X t xs ys e in
-    let long : length (take X.channels xs) ≡ X.channels = ap length front ∙ line_length X t in
-    e ∙ ap (λ zs. zs ++ drop X.channels ys) (sym front) ∙ ap (λ k. take X.channels xs ++ drop k ys) (sym long)
