@@ -42,6 +42,7 @@ impl ClosureFault {
 }
 
 impl LoadFault {
+    // Kept so: the rules give each fault a number.
     // The number of the fault, its byte, and the lower number where there is one; `None` for want of memory.
     pub fn numbers(&self) -> Option<(u8, usize, Option<u8>)>
         ensures is_told { MatchOption result (told_load self.now ≡ (0, [])) (λ n. told_load self.now ≡ (n.0, n.1 ∷ lower_list n.2)) }

@@ -35,6 +35,7 @@ pub fn load(heap: Global, bytes: &[u8]) -> Result<Loaded, LoadFault>
         closures,
     } = read_plan(heap, bytes)?;
     let schedule = schedule_of(heap, film, parts)?;
+    // Kept so: in `map_err` with a closure and `?` the proof did not close (the subtractions in the closure, and the fault it leaves).
     if let Err((index, fault)) = judge_all(closures.as_slice(), film.channels, schedule.period()) {
         let byte = bytes.len() - 1 - CLOSURE_BYTES * (closures.len() - index);
         return Err(LoadFault::Closing(byte, fault));

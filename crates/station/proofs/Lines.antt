@@ -1,8 +1,8 @@
 -- Writing what is sent into a list, channel by channel.
-use Rattle.std.proofs.Common.{◌≡◌, ℕ, suc, ◌+◌, ◌-◌, ◌<◌, ◌≤◌, List, ◌++◌, map, length, get_or, take, drop, set, sym, ap, ◌∙◌, append_assoc, add-one, arith, drop-cons}
+use Rattle.std.proofs.Common.{◌≡◌, ℕ, suc, ◌+◌, ◌<◌, ◌≤◌, List, ◌++◌, map, length, get_or, drop, set, ap, ◌∙◌, append_assoc, append-nil, add-one, arith, drop-cons}
 use Rattle.std.specs.List.{range_with_len}
 use Rattle.std.proofs.lemmas.List.FromFn.{map-range_with_len_more, length-map-range_with_len}
-use Rattle.std.proofs.lemmas.List.{set_at, take_at}
+use Rattle.std.proofs.lemmas.List.{set_at, drop_all}
 use Rattle.timetable.specs.Closed.{line}
 use Rattle.timetable.specs.Meaning.{Meaning}
 
@@ -10,28 +10,15 @@ line_more : (f : ℕ → ℕ) (ys : List ℕ) (i : ℕ) → i < length ys → se
 line_more f ys i l =
     rw (drop-cons ys i 0 l, map-range_with_len_more f 1 i (i + 1) (omega arith), set_at (map f (range_with_len 1 i)) (get_or ys i 0) (drop (suc i) ys) (f (i + 1)) i (length-map-range_with_len f 1 i)) (simp (append_assoc, add-one))
 
--- channel k is written too
-pub line_set : (X : Meaning) (t : ℕ) (xs ys : List ℕ) (k j page : ℕ) → 1 ≤ k → k ≤ length ys → j ≡ k - 1 → page ≡ X.page k t
-    → xs ≡ map (λ n. X.page n t) (range_with_len 1 (k - 1)) ++ drop (k - 1) ys → set xs j page ≡ map (λ n. X.page n t) (range_with_len 1 k) ++ drop k ys
-line_set X t xs ys k j page first low at carried so_far =
+-- one channel more is written
+pub line_set : (X : Meaning) (t : ℕ) (xs ys : List ℕ) (i page : ℕ) → i < length ys → page ≡ X.page (i + 1) t
+    → xs ≡ map (λ n. X.page n t) (range_with_len 1 i) ++ drop i ys → set xs i page ≡ map (λ n. X.page n t) (range_with_len 1 (i + 1)) ++ drop (i + 1) ys
+line_set X t xs ys i page low carried so_far =
     let f : ℕ → ℕ = λ n. X.page n t in
-    let same : k - 1 + 1 ≡ k = omega arith in
-    ap (λ i. set xs i page) at
-    ∙ ap (λ zs. set zs (k - 1) page) so_far
-    ∙ ap (λ p. set (map f (range_with_len 1 (k - 1)) ++ drop (k - 1) ys) (k - 1) p) (carried ∙ ap f (sym same))
-    ∙ line_more f ys (k - 1) (omega arith)
-    ∙ ap (λ n. map f (range_with_len 1 n) ++ drop n ys) same
+    ap (λ zs. set zs i page) so_far ∙ ap (λ p. set (map f (range_with_len 1 i) ++ drop i ys) i p) carried ∙ line_more f ys i low
 
-pub line_length : (X : Meaning) (t : ℕ) → length (line X t) ≡ X.channels
-line_length X t = length-map-range_with_len (λ k. X.page k t) 1 X.channels
-
--- the first places of such a list are the line
-pub line_front : (X : Meaning) (t : ℕ) (xs ys : List ℕ) → xs ≡ line X t ++ drop X.channels ys → take X.channels xs ≡ line X t
-line_front X t xs ys e = ap (λ zs. take X.channels zs) e ∙ take_at (line X t) (drop X.channels ys) X.channels (line_length X t)
-
--- and it is that line in front of the rest
-pub line_written : (X : Meaning) (t : ℕ) (xs ys : List ℕ) → xs ≡ line X t ++ drop X.channels ys → xs ≡ take X.channels xs ++ drop (length (take X.channels xs)) ys
-line_written X t xs ys e =
-    let front = line_front X t xs ys e in
-    let long : length (take X.channels xs) ≡ X.channels = ap length front ∙ line_length X t in
-    e ∙ ap (λ zs. zs ++ drop X.channels ys) (sym front) ∙ ap (λ k. take X.channels xs ++ drop k ys) (sym long)
+-- all channels are written
+pub line_whole : (X : Meaning) (t : ℕ) (xs ys : List ℕ) (i : ℕ) → i ≡ X.channels → length ys ≤ i → xs ≡ map (λ n. X.page n t) (range_with_len 1 i) ++ drop i ys → xs ≡ line X t
+line_whole X t xs ys i all end so_far =
+    let f : ℕ → ℕ = λ n. X.page n t in
+    so_far ∙ ap (λ zs. map f (range_with_len 1 i) ++ zs) (drop_all i ys end) ∙ append-nil (map f (range_with_len 1 i)) ∙ ap (λ n. map f (range_with_len 1 n)) all

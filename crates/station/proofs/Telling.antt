@@ -1,8 +1,6 @@
--- What a station tells of its findings, of a survey and of a slot.
-use Rattle.std.proofs.Common.{◌≡◌, ℕ, ◌+◌, ◌<◌, ◌≤◌, List, length, Ok, Err, sym, refl, ap, subst, ⊎_elim, arith}
+-- What a station tells of its findings and of a survey.
+use Rattle.std.proofs.Common.{◌≡◌, ℕ, ◌<◌, ◌≤◌, length, Ok, Err, sym, subst, ⊎_elim, arith}
 use Rattle.std.proofs.lemmas.List.Sorted.{length_permutation}
-use Rattle.std.proofs.lemmas.Bool.{le-ltb, lt-leb}
-use Rattle.timetable.specs.Closed.{line}
 use Rattle.bag.specs.Bags.{room, SameMemory}
 use Rattle.bag.specs.declared.bag.Bag.{Bag}
 use Rattle.bag.specs.declared.ranked.Ranked.{Ghosts}
@@ -14,9 +12,9 @@ use Rattle.checker.specs.declared.refusal.FindingsRefusal.TheVariants.{OutOfRang
 use Rattle.survey.specs.Refusals as surveying
 use Rattle.survey.specs.Surveys.{Surveys}
 use Rattle.survey.specs.declared.refusal.SurveyRefusal.{SurveyRefusal}
-use Rattle.station.specs.declared.phase.Phase.TheVariants.{Open, OnAir}
+use Rattle.station.specs.declared.phase.Phase.TheVariants.{Open}
 use Rattle.station.specs.declared.refusal.Refusal.TheVariants as refusal
-use Rattle.station.specs.States.{State, sent_by, FindingsOf, out_of_range, few_cells, short_bag, all_found, SurveyTold, short_scratch, long_period, peak, surveyed, refused, Is, ticks, ticks_from, ticked, with_phase, last_slot}
+use Rattle.station.specs.States.{State, sent_by, FindingsOf, out_of_range, few_cells, short_bag, all_found, SurveyTold, short_scratch, long_period, peak, surveyed, refused}
 
 module _ (s : State) (cells : ℕ) {o : Ghosts Finding} (a b : Bag Finding o) (same : SameMemory a b) where
   pub findings_told : (count : ℕ) → Finds (sent_by s) s.delay s.pages cells (Ok count) b → FindingsOf s cells (room a) (Ok count) b
@@ -40,9 +38,3 @@ module _ (s : State) (cells : ℕ) (passed : s.phase ≡ Open → ⊥) where
       (λ short. subst (λ t. SurveyTold s cells (refused t)) (sym short.0) (short_scratch passed short.1))
       (λ long. subst (λ t. SurveyTold s cells (refused t)) (sym long.0) (long_period passed long.1 long.2))
       h
-
--- a slot that is sent
-pub tick_told : (s : State) (places c : ℕ) (l : List ℕ) → s.phase ≡ OnAir c → s.table.channels ≤ places → c < last_slot → l ≡ line (sent_by s) c → Is (ticks s places) (ticked c l) (with_phase s (OnAir (c + 1)))
-tick_told s places c l on room early e =
-    subst (λ p. Is (ticks_from s places p) (ticked c l) (with_phase s (OnAir (c + 1)))) (sym on)
-    (rw (le-ltb places s.table.channels room, lt-leb last_slot c early) (ap (λ zs. ticked c zs) e, refl))

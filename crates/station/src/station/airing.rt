@@ -14,8 +14,9 @@ fn write_line<T: Timetable>(table: &T, slot: u32, list: &mut [u16])
     requires room { (T.meaning table.now).channels ≤ length list.old }
     ensures line_in_front { list.new ≡ line (T.meaning table.now) slot ++ drop (T.meaning table.now).channels list.old }
 {
-    for channel in 1..=table.channels() {
-        list[usize::from(channel) - 1] = table.page_at(channel, slot);
+    let (front, _) = list.split_at_mut(usize::from(table.channels()));
+    for (place, page) in front.iter_mut().enumerate() {
+        *page = table.page_at(place as u8 + 1, slot);
     }
 }
 
