@@ -6,16 +6,14 @@ ghost use Rattle.std.specs.Process.{exit_status};
 
 use anyhow::anyhow;
 use line::Line;
-use std::io::Read;
+use std::alloc::{AllocError, Global};
+use std::io::{BufRead, BufReader, Read};
 use std::process::ExitCode;
 use std::rt::{Env, Files};
 use std::{env, fs};
 
 // The bytes of the file that the one argument names, or of standard input where there is none.
-pub fn input<R: Env + Files + Input + AllocGlobal>(
-    rt: &R,
-    program: &str,
-) -> anyhow::Result<Vec<u8>> {
+fn input<R: Env + Files + Input + AllocGlobal>(rt: &R, program: &str) -> anyhow::Result<Vec<u8>> {
     let mut args = env::args(rt)?;
     let _name = args.next();
     match (args.next(), args.next()) {
@@ -31,12 +29,33 @@ pub fn input<R: Env + Files + Input + AllocGlobal>(
     }
 }
 
-// Prints each line, after an indent.
-pub fn print_lines<R: Print + AllocGlobal>(
+// What a program prints of the bytes of a plan file.
+pub trait Reports {
+    fn report(heap: Global, bytes: &[u8]) -> Result<Vec<Line>, AllocError>;
+}
+
+// Prints what is to be said of a file: the one that the one argument names, or standard input where there is none.
+pub fn show<P: Reports, R: Env + Files + Input + Print + AllocGlobal>(
     rt: &R,
-    indent: &str,
-    lines: &[Line],
+    program: &str,
 ) -> anyhow::Result<()> {
+    let bytes = input(rt, program)?;
+    let lines = P::report(rt.alloc(), bytes.as_slice())?;
+    print_lines(rt, "", lines.as_slice())
+}
+
+// Prints of each case, one to a line of standard input, its name and what is to be said of its file.
+pub fn show_cases<P: Reports, R: Input + Print + AllocGlobal>(rt: &R) -> anyhow::Result<()> {
+    for case in BufReader::new(rt.alloc(), rt.reader())?.lines(rt.alloc()) {
+        let bytes = case_bytes(rt, case?.as_str())?;
+        let lines = P::report(rt.alloc(), bytes.as_slice())?;
+        print_lines(rt, "  ", lines.as_slice())?;
+    }
+    Ok(())
+}
+
+// Prints each line, after an indent.
+fn print_lines<R: Print + AllocGlobal>(rt: &R, indent: &str, lines: &[Line]) -> anyhow::Result<()> {
     for line in lines {
         println!(rt; "{indent}{line}")?;
     }
@@ -90,7 +109,7 @@ fn append_piece(out: &mut Vec<u8>, piece: &str) -> anyhow::Result<()> {
 
 // Prints the name of a case, and gives the bytes of its file. A case is a line of text: a name and then pieces of the file,
 // hexadecimal digits, or digits, an `x` and how often they are repeated.
-pub fn case_bytes<R: Print + AllocGlobal>(rt: &R, case: &str) -> anyhow::Result<Vec<u8>> {
+fn case_bytes<R: Print + AllocGlobal>(rt: &R, case: &str) -> anyhow::Result<Vec<u8>> {
     let mut words = case.split_whitespace();
     if let Some(name) = words.next() {
         println!(rt; "{name}")?;

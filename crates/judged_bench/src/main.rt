@@ -1,16 +1,20 @@
 // judged_bench [FILE]: prints what is to be said of a plan file, with the judgement of its plan, or of standard input where no file is named.
 #![tactic(auto)]
 
-use console::{input, print_lines, status};
+use console::{Reports, show, status};
 use judged::lines::report;
+use line::Line;
+use std::alloc::{AllocError, Global};
 use std::process::ExitCode;
 
-fn run(rt: &HostRuntime) -> anyhow::Result<()> {
-    let bytes = input(rt, "judged_bench")?;
-    let lines = report(rt.alloc(), bytes.as_slice())?;
-    print_lines(rt, "", lines.as_slice())
+struct Bench {}
+
+impl Reports for Bench {
+    fn report(heap: Global, bytes: &[u8]) -> Result<Vec<Line>, AllocError> {
+        report(heap, bytes)
+    }
 }
 
 fn main(rt: HostRuntime) -> ExitCode {
-    status(&rt, run(&rt))
+    status(&rt, show::<Bench, HostRuntime>(&rt, "judged_bench"))
 }

@@ -1,19 +1,19 @@
 // Reads plan files written as hexadecimal text, one to a line, and prints what the bench would print of each.
 #![tactic(auto)]
 
-use console::{case_bytes, print_lines};
+use console::{Reports, show_cases};
+use line::Line;
 use report::lines::report;
-use std::io::{BufRead, BufReader};
+use std::alloc::{AllocError, Global};
 
-fn run(rt: &HostRuntime) -> anyhow::Result<()> {
-    for case in BufReader::new(rt.alloc(), rt.stdin())?.lines(rt.alloc()) {
-        let bytes = case_bytes(rt, case?.as_str())?;
-        let lines = report(rt.alloc(), bytes.as_slice())?;
-        print_lines(rt, "  ", lines.as_slice())?;
+struct Vectors {}
+
+impl Reports for Vectors {
+    fn report(heap: Global, bytes: &[u8]) -> Result<Vec<Line>, AllocError> {
+        report(heap, bytes)
     }
-    Ok(())
 }
 
 fn main(rt: HostRuntime) -> anyhow::Result<()> {
-    run(&rt)
+    show_cases::<Vectors, HostRuntime>(&rt)
 }
