@@ -22,6 +22,13 @@ def sources(tests):
             yield path, path.read_text().split("\n")
 
 
+def each_line(tests=False):
+    """Each line of the sources, with its file, its number and the lines of that file."""
+    for path, lines in sources(tests):
+        for n, line in enumerate(lines):
+            yield path, n, line, lines
+
+
 def place(path, number, text):
     return f"{path.relative_to(ROOT)}:{number + 1}: {text.strip()}"
 
@@ -43,40 +50,38 @@ def point1():
     """matches whose arms are all of an Option or a Result; let-else that hand on None or an Err; enums with a case Refused;
     answers that are a bool though memory is written; numbers with a value that means none"""
     handed = re.compile(r"^(Some|None|Ok|Err)\b")
-    for path, lines in sources(False):
-        for n, line in enumerate(lines):
-            if re.search(r"\bmatch\b.*\{$", line):
-                patterns = arms(lines, n)
-                if patterns and all(handed.match(p) for p in patterns):
-                    yield place(path, n, line)
-            if re.search(r"let (Some|Ok)\(.*\} else \{$|let (Some|Ok)\(.*\) = .* else \{$", line):
-                body = lines[n + 1].strip()
-                if body.startswith(("return None", "return Err", "return false")):
-                    yield place(path, n, line)
-            if re.match(r"\s*Refused\(", line):
+    hands_on = ("return None", "return Err", "return false")
+    for path, n, line, lines in each_line():
+        if re.search(r"\bmatch\b.*\{$", line):
+            patterns = arms(lines, n)
+            if patterns and all(handed.match(p) for p in patterns):
                 yield place(path, n, line)
-            if re.search(r"fn .*&mut .*-> bool$", line):
+        if re.search(r"let (Some|Ok)\(.*\} else \{$|let (Some|Ok)\(.*\) = .* else \{$", line):
+            if lines[n + 1].strip().startswith(hands_on):
                 yield place(path, n, line)
-            if re.search(r"\b(found|number)\b (==|!=|>) 0\b|^\s*0 => None|=> 0,$", line):
-                yield place(path, n, line)
+        if re.match(r"\s*Refused\(", line):
+            yield place(path, n, line)
+        if re.search(r"fn .*&mut .*-> bool$", line):
+            yield place(path, n, line)
+        if re.search(r"\b(found|number)\b (==|!=|>) 0\b|^\s*0 => None|=> 0,$", line):
+            yield place(path, n, line)
 
 
 def point3():
     """loops over a range, and while loops"""
-    for path, lines in sources(True):
-        for n, line in enumerate(lines):
-            if re.match(r"\s*('\w+: )?for .* in .*\.\.|\s*while ", line):
-                yield place(path, n, line)
+    for path, n, line, _ in each_line(tests=True):
+        if re.match(r"\s*('\w+: )?for .* in .*\.\.|\s*while ", line):
+            yield place(path, n, line)
 
 
 def point4():
     """casts by as; functions that compare two records field by field; a zero record by hand"""
-    for path, lines in sources(False):
-        for n, line in enumerate(lines):
-            for _ in re.findall(r" as (?:u8|u16|u32|u64|usize)\b", line):
-                yield place(path, n, line)
-            if re.search(r"fn (comes_before|closes|is_entry|zero)\(.*(self|closure|\)).*", line) and "cells" not in line:
-                yield place(path, n, line)
+    by_hand = r"fn (comes_before|closes|is_entry|zero)\(.*(self|closure|\)).*"
+    for path, n, line, _ in each_line():
+        for _ in re.findall(r" as (?:u8|u16|u32|u64|usize)\b", line):
+            yield place(path, n, line)
+        if re.search(by_hand, line) and "cells" not in line:
+            yield place(path, n, line)
 
 
 def functions(lines):
@@ -107,7 +112,7 @@ def point5():
                     clauses[crate, kind, plain] += 1
                     where.setdefault((crate, kind, plain), place(path, start, text[0]))
             names = re.findall(r"\b(\w+): (?!_)", re.split(r"\b(?:requires|ensures)\b", whole)[0])
-            names = sorted(set(names) - {"heap", "rt", "bytes", "at"})
+            names = sorted(set(names) - {"heap", "rt"})
             for i, a in enumerate(names):
                 for b in names[i + 1:]:
                     pairs[crate, a, b] += 1
@@ -121,22 +126,19 @@ def point5():
 
 def point6():
     """arrays and counts in structs; loops that search a list"""
-    for path, lines in sources(False):
-        for n, line in enumerate(lines):
-            if re.match(r"\s*(pub )?\w+: (\[.*; \w+\]|usize),$", line):
-                yield place(path, n, line)
-            if re.match(r"\s*for ", line) and any(
-                re.match(r"\s*(return (true|Some|i\b))", later) for later in lines[n + 1:n + 4]
-            ):
-                yield place(path, n, line)
+    for path, n, line, lines in each_line():
+        if re.match(r"\s*(pub )?\w+: (\[.*; \w+\]|usize),$", line):
+            yield place(path, n, line)
+        found = r"\s*(return (true|Some|i\b))"
+        if re.match(r"\s*for ", line) and any(re.match(found, later) for later in lines[n + 1:n + 4]):
+            yield place(path, n, line)
 
 
 def point7():
     """matches on which call to make"""
-    for path, lines in sources(False):
-        for n, line in enumerate(lines):
-            if re.search(r"\bmatch call\b|fn\(.*\) -> .*,$|dyn ", line):
-                yield place(path, n, line)
+    for path, n, line, _ in each_line():
+        if re.search(r"\bmatch call\b|fn\(.*\) -> .*,$|dyn ", line):
+            yield place(path, n, line)
 
 
 POINTS = {"1": point1, "3": point3, "4": point4, "5": point5, "6": point6, "7": point7}
