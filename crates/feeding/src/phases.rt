@@ -34,7 +34,7 @@ fn show_line(
 }
 
 // Hears lines, no more than are left of the delay.
-pub fn hear_all(
+pub(crate) fn hear_all(
     waiting: &mut Receiver<Waiting>,
     store: &mut [u8],
     lines: &[Vec<u16>],
@@ -59,7 +59,7 @@ pub fn hear_all(
 }
 
 // Shows pages, one a line, until the film is whole, the lines end or a call is refused.
-pub fn show_all(
+pub(crate) fn show_all(
     showing: &mut Receiver<Showing>,
     store: &mut [u8],
     lines: &[Vec<u16>],

@@ -7,7 +7,7 @@ use receiver::refusal::Refusal;
 use receiver::states::Receiver;
 
 // Tunes a receiver and feeds it the lines, until the film is whole, the lines end or a call is refused.
-pub fn follow(
+pub(crate) fn follow(
     delay: u16,
     pages: u16,
     capacity: u16,

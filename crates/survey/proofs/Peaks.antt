@@ -36,7 +36,7 @@ near L m n t end xs serves far h i l =
 
 pub peak_is : (L : ℕ → List ℕ) (m n t end : ℕ) (xs : List ℕ) → 1 ≤ m → m ≤ 1024 → 1 ≤ n → n ≤ 1024 → Serves L m n t (m + n) → t + m + n ≤ end → Comings L n t end xs
     → peak_from L m n t ≡ top (λ s. count n (λ i. leb (late m n t xs i) s) - s) 0 n 0
-peak_is L m n t end xs m1 m2 n1 n2 serves far h =
+peak_is L m n t end xs m_some m_few n_some n_few serves far h =
     let S = stock_at L m n t in
     let C : ℕ → ℕ = λ s. count n (λ i. leb (late m n t xs i) s) - s in
     let close = near L m n t end xs serves far h in
@@ -46,10 +46,10 @@ peak_is L m n t end xs m1 m2 n1 n2 serves far h =
     let here : arrived L n t (suc (m + s)) ≡ count n (λ i. leb (late m n t xs i) s) =
     count_same n _ _ (λ i l. came_is L (i + 1) t end (get_or xs i 0) (suc (m + s)) (omega arith) (h i l) ∙ late_is (get_or xs i 0) t m n s (close i l).0 (close i l).1) in
     omega arith in
-    peak_is_top L m n t (replicate n 0) (record { delay = (m1, m2); pages = (n1, n2); capacity = omega arith; long = simp length-replicate (omega arith) }) serves
+    peak_is_top L m n t (replicate n 0) (record { delay = (m_some, m_few); pages = (n_some, n_few); capacity = omega arith; long = simp length-replicate (omega arith) }) serves
     ∙ top_split S 0 m n 0
     ∙ ap (λ x. top S x n (top S 0 m 0)) front
-    ∙ top_start S m n (top S 0 m 0) n1 (top_low S 0 m 0 (S m) (omega arith) (λ i a b. stock_grows L m n t i (omega arith)))
+    ∙ top_start S m n (top S 0 m 0) n_some (top_low S 0 m 0 (S m) (omega arith) (λ i a b. stock_grows L m n t i (omega arith)))
     ∙ ap (λ x. top S x n 0) back
     ∙ top_shift S m 0 n 0
     ∙ top_same (λ s. S (m + s)) C 0 n 0 each
@@ -88,5 +88,5 @@ pub turn : (L : ℕ → List ℕ) (m n P T : ℕ) (ys : List ℕ) (p : ℕ) → 
     → ((t i : ℕ) → i < n → came L (i + 1) t (m + i) ≡ true) → 0 < T → T ≤ P
     → p ≡ top (λ s. count n (λ i. leb (late m n (T - 1) ys i) s) - s) 0 n 0
     → Comings L n (T - 1) (P + m + n) ys → p ≡ peak_from L m n (T - 1)
-turn L m n P T ys p m1 m2 n1 n2 feeds some below e seen =
-    e ∙ sym (peak_is L m n (T - 1) (P + m + n) ys m1 m2 n1 n2 (λ i l far. feeds (T - 1) i l) (omega arith) seen)
+turn L m n P T ys p m_some m_few n_some n_few feeds some below e seen =
+    e ∙ sym (peak_is L m n (T - 1) (P + m + n) ys m_some m_few n_some n_few (λ i l far. feeds (T - 1) i l) (omega arith) seen)

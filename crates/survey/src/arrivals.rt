@@ -22,7 +22,7 @@ fn crest(arrivals: &[u32]) -> usize
 
 // The peak of a receiver that tunes in at a slot, from the next coming of each page, which is counted in the slot in which it
 // arrives.
-pub fn peak_from(nexts: &[u32], arrivals: &mut [u32], delay: u16, slot: u32) -> u16
+pub(crate) fn peak_from(nexts: &[u32], arrivals: &mut [u32], delay: u16, slot: u32) -> u16
     requires same_film { length arrivals.old ≡ length nexts.now }
     requires short { length nexts.now ≤ 65535 }
     ensures by_comings { result

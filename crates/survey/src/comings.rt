@@ -18,7 +18,7 @@ fn note_page(nexts: &mut [u32], page: u16, slot: u32)
 }
 
 // All pages of a slot.
-pub fn note_slot<T: Timetable>(table: &T, nexts: &mut [u32], slot: u32)
+pub(crate) fn note_slot<T: Timetable>(table: &T, nexts: &mut [u32], slot: u32)
     ensures notes_line { nexts.new
         ≡ noted (length nexts.old) slot nexts.old (line (T.meaning table.now) slot) }
 {

@@ -5,7 +5,7 @@ use crate::{arrivals, comings};
 use timetable::interface::Timetable;
 
 // The greatest peak of all tune-ins, and the first slot that reaches it.
-pub fn greatest_peak<T: Timetable>(
+pub(crate) fn greatest_peak<T: Timetable>(
     table: &T,
     delay: u16,
     film: u16,
