@@ -9,6 +9,17 @@ use Rattle.checker.specs.Sweep.{missing, settled, heard, Waits, Heard, Clean}
 pub missing_cases : (W f w t : ℕ) → ((f ≡ 0) × (W + w ≤ t) × (missing W f w t ≡ W + 1)) ⊎ ((f ≡ 0 → t < W + w) × (missing W f w t ≡ f))
 missing_cases W f w t = grind (arith, nat_tests)
 
+-- nothing asked yet
+waits_none : (X : Meaning) (w i : ℕ) → Waits X w i 0 1 0 0
+waits_none X w i = record {
+  ahead = omega arith;
+  quiet = λ u a b d. omega arith;
+  here = λ a k' b d e. omega arith;
+  clear = λ z s b d. omega arith;
+  starves = λ s e. absurd (omega arith);
+  first = λ s e s' b d. omega arith;
+}
+
 -- the page came
 waits_came : (X : Meaning) (w i t k W f : ℕ) → 1 ≤ k → k ≤ X.channels → X.page k t ≡ i → Waits X w i t k W f → Waits X w i t (k + 1) (t + 1) (missing W f w t)
 waits_came X w i t k W f lo hi e h = record {
@@ -60,6 +71,12 @@ waits_next X w i t W f h = record {
   starves = h.starves;
   first = h.first;
 }
+
+pub heard_none : (X : Meaning) (m n : ℕ) (xs : List ℕ) → ((j : ℕ) → j < 2 * n → get_or xs j 0 ≡ 0) → Heard X m n 0 1 xs
+heard_none X m n xs z j h = simp (z j (omega arith), z (n + j) (omega arith)) (waits_none X (m + j) (j + 1))
+
+pub clean_none : (X : Meaning) (n : ℕ) → Clean X n 0 1
+clean_none X n = record { before = λ u k' a b d. absurd (omega arith); here = λ k' a b. absurd (omega arith) }
 
 pub clean_more : (X : Meaning) (n t k p : ℕ) → p ≡ X.page k t → p ≤ n → Clean X n t k → Clean X n t (k + 1)
 clean_more X n t k p e top h = record {

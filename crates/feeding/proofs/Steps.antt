@@ -1,6 +1,6 @@
 -- One line more of a feeding.
-use Rattle.std.proofs.Common.{◌≡◌, ℕ, ◌+◌, ◌<◌, ◌≤◌, Bool, true, false, cond, not, eqb, ltb, leb, List, [], ◌∷◌, ◌++◌, map, length, get_or, take, drop, set, vec_items, Vec, sym, refl, ap, ◌∙◌, append_assoc, arith}
-use Rattle.std.proofs.lemmas.Bool.{lt-ltb, cond-true, cond-false, eq-eqb, ne_eqb}
+use Rattle.std.proofs.Common.{◌≡◌, ℕ, ◌+◌, ◌<◌, ◌≤◌, Bool, true, false, cond, not, eqb, ltb, leb, List, [], ◌∷◌, ◌++◌, map, length, get_or, take, drop, set, vec_items, Vec, sym, refl, ap, ◌∙◌, ⊎_elim, append_assoc, arith}
+use Rattle.std.proofs.lemmas.Bool.{cases_lt, lt-ltb, le-ltb, cond-true, cond-false, eq-eqb, ne_eqb}
 use Rattle.std.proofs.lemmas.List.{drop_more, drop_all, take-append-drop, map-append}
 use Rattle.receiver.specs.declared.numbers.Numbers.{Numbers}
 use Rattle.receiver.specs.Calls.{Outcome, granted, refused, tune, hear, start, show, heard_more, shown_more}
@@ -131,3 +131,13 @@ pub rows_split : {Z : Type 0} (lines early late : List (Vec ℕ Z)) (k : ℕ) �
 rows_split {Z} lines early late k e l =
     let whole : lines ≡ early ++ late = sym (take-append-drop k lines) ∙ ap (λ (x : List (Vec ℕ Z)). x ++ drop k lines) (sym e) ∙ ap (λ (x : List (Vec ℕ Z)). early ++ x) (sym l) in
     ap (λ (xs : List (Vec ℕ Z)). map vec_items xs) whole ∙ map-append vec_items early late
+
+-- a refused start: fewer slots than the delay were heard
+pub too_early : (r : Numbers) (v : ℕ × List ℕ) → start r ≡ refused v → r.heard < r.delay
+too_early r v e = ⊎_elim
+    (λ (lt : r.heard < r.delay). lt)
+    (λ (ge : r.delay ≤ r.heard).
+    let f : ◌≡◌ {A = Outcome Numbers} (granted r) (refused v) = sym (cond-false (ltb r.heard r.delay) (refused (32, [])) (granted r) (le-ltb r.heard r.delay ge)) ∙ e in
+    let z : ◌≡◌ {A = ℕ} 0 1 = cc in
+    absurd (omega arith))
+    (cases_lt r.heard r.delay)

@@ -37,7 +37,7 @@ pub lawful_if_read : (p q : Plan) → Reads (file_of p) q → Lawful (sheet p)
 lawful_if_read p q r = subst Lawful (sym (same_sheet (sheet p) (sheet q) (same_records _ _ r.whole))) r.lawful
 
 -- what putting the bytes of a plan that reads leaves
-wrote_of : (p q : Plan) (bytes was now : List ℕ) (n : ℕ) → bytes ≡ file_of p → Reads (file_of p) q → PutAll bytes was now (Some n) → Wrote p was now n
+pub wrote_of : (p q : Plan) (bytes was now : List ℕ) (n : ℕ) → bytes ≡ file_of p → Reads (file_of p) q → PutAll bytes was now (Some n) → Wrote p was now n
 wrote_of p q bytes was now n e r w = record {
   lawful = lawful_if_read p q r;
   count = w.0 ∙ ap length e;
@@ -45,7 +45,7 @@ wrote_of p q bytes was now n e r w = record {
   after = w.2 ∙ ap (λ l. l ++ drop n was) e;
 }
 
-no_room_of : (p q : Plan) (bytes was now : List ℕ) → bytes ≡ file_of p → Reads (file_of p) q → PutAll bytes was now None → Unwritten p (length was) 13 [] × (now ≡ was)
+pub no_room_of : (p q : Plan) (bytes was now : List ℕ) → bytes ≡ file_of p → Reads (file_of p) q → PutAll bytes was now None → Unwritten p (length was) 13 [] × (now ≡ was)
 no_room_of p q bytes was now e r w = (no_room (lawful_if_read p q r) (omega (arith, w.0, ap length e)), w.1)
 
 -- what the answer on putting them is as the answer on writing the plan
@@ -57,7 +57,7 @@ read_again : (p : Plan) (file : List ℕ) → Lawful (sheet p) → file ≡ file
 read_again p file l e (Ok q) a = one_sheet file (sheet q) (sheet p) a.lawful l a.whole e
 read_again p file l e (Err f) a = is_memory f (unrefused file (sheet p) l e a)
 
-pub reads_back : (p : Plan) (was now : List ℕ) (r : Result ℕ (WriteFault Fault)) → Written p was now r → ReadsBack p now r
+pub reads_back : (p : Plan) (was now : List ℕ) (r : Result ℕ WriteFault) → Written p was now r → ReadsBack p now r
 reads_back p was now (Ok n) w = read_again p (take n now) w.lawful (ap (take n) w.after ∙ take_at (file_of p) (drop n was) n (sym w.count))
 reads_back p was now (Err f) w = tt
 
@@ -67,7 +67,7 @@ unwritten_of p room file r _ _ (no_room l h) = inr (refl, omega (arith, ap lengt
 unwritten_of p room file r _ _ no_memory = inl refl
 
 -- which fault a number is, of want of memory and of room
-numbered : (f : WriteFault Fault) (P : Type 0) → ((told_write f).0 ≡ 0) ⊎ (((told_write f).0 ≡ 13) × P) → ((f ≡ NoRoom) × P) ⊎ (f ≡ Unfit Memory)
+numbered : (f : WriteFault) (P : Type 0) → ((told_write f).0 ≡ 0) ⊎ (((told_write f).0 ≡ 13) × P) → ((f ≡ NoRoom) × P) ⊎ (f ≡ Unfit Memory)
 numbered (Unfit (CutShort b)) P e = absurd (⊎_elim (λ h. omega arith) (λ h. omega (arith, h.0)) e)
 numbered (Unfit (UnknownKind b)) P e = absurd (⊎_elim (λ h. omega arith) (λ h. omega (arith, h.0)) e)
 numbered (Unfit (OutOfPlace b)) P e = absurd (⊎_elim (λ h. omega arith) (λ h. omega (arith, h.0)) e)
@@ -76,6 +76,6 @@ numbered (Unfit TooLong) P e = absurd (⊎_elim (λ h. omega arith) (λ h. omega
 numbered (Unfit Memory) P e = inr refl
 numbered NoRoom P e = ⊎_elim (λ h. absurd (omega arith)) (λ h. inl (refl, h.1)) e
 
-pub writes_back : (p : Plan) (was now : List ℕ) (r : Result ℕ (WriteFault Fault)) → Written p was now r → WritesBack p was now r
+pub writes_back : (p : Plan) (was now : List ℕ) (r : Result ℕ WriteFault) → Written p was now r → WritesBack p was now r
 writes_back p was now (Ok n) w file r = (w.count ∙ ap length (sym r.whole), w.after ∙ ap (λ l. l ++ drop n was) (sym r.whole))
 writes_back p was now (Err f) w file r = numbered f _ (unwritten_of p (length was) file r _ _ w.0)

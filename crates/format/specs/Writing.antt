@@ -15,7 +15,7 @@ PutAll xs was now (Some n) = (n ≡ length xs) × (n ≤ length was) × (now ≡
 PutAll xs was now None = (length was < length xs) × (now ≡ was)
 
 -- a fault's number and values
-abbrev pub told_write : WriteFault Fault → ℕ × List ℕ
+abbrev pub told_write : WriteFault → ℕ × List ℕ
 told_write (Unfit f) = told f
 told_write NoRoom = (13, [])
 
@@ -33,15 +33,15 @@ pub record Wrote (p : Plan) (was now : List ℕ) (n : ℕ) : Type 0 where
   pub after : now ≡ file_of p ++ drop n was
 
 -- the answer to a plan and a list; where the plan is not written the list is as it was
-abbrev pub Written : Plan → List ℕ → List ℕ → Result ℕ (WriteFault Fault) → Type 0
+abbrev pub Written : Plan → List ℕ → List ℕ → Result ℕ WriteFault → Type 0
 Written p was now r = MatchResult r (Wrote p was now) (λ f. Unwritten p (length was) (told_write f).0 (told_write f).1 × (now ≡ was))
 
 -- what was written reads back as the same plan
-abbrev pub ReadsBack : Plan → List ℕ → Result ℕ (WriteFault Fault) → Type 0
+abbrev pub ReadsBack : Plan → List ℕ → Result ℕ WriteFault → Type 0
 ReadsBack p now r =
     IfOk r (λ n. (s : Result Plan Fault) → Answers (take n now) s → MatchResult s (λ q. sheet q ≡ sheet p) (λ f. f ≡ Memory))
 
 -- a plan that was read from a file is written back byte for byte, unless the list is too short or there is no memory
-abbrev pub WritesBack : Plan → List ℕ → List ℕ → Result ℕ (WriteFault Fault) → Type 0
+abbrev pub WritesBack : Plan → List ℕ → List ℕ → Result ℕ WriteFault → Type 0
 WritesBack p was now r =
     (file : List ℕ) → Reads file p → MatchResult r (λ n. (n ≡ length file) × (now ≡ file ++ drop n was)) (λ f. ((f ≡ NoRoom) × (length was < length file)) ⊎ (f ≡ Unfit Memory))

@@ -2,19 +2,20 @@
 ghost use Rattle.std.specs.Prelude.{◌≡◌};
 ghost use Rattle.format.specs.declared.fault.WriteFault.TheVariants.{Unfit as NotRead};
 
-// Why a plan is not written, where reading its bytes has faults of the type F.
+use records::fault::Fault;
+
 #[derive(Clone, Copy, Debug, PartialEq, Eq)]
-pub enum WriteFault<F> {
+pub enum WriteFault {
     // Reading would refuse the bytes, with this fault.
-    Unfit(F),
+    Unfit(Fault),
     // The output list is too short.
     NoRoom,
 }
 
-impl<F> From<F> for WriteFault<F> {
+impl From<Fault> for WriteFault {
     ghost from_gives = { λ f r. r ≡ NotRead f };
 
-    fn from(fault: F) -> WriteFault<F> {
+    fn from(fault: Fault) -> WriteFault {
         WriteFault::Unfit(fault)
     }
 }

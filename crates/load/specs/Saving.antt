@@ -2,26 +2,16 @@
 use Rattle.std.specs.Prelude.{◌≡◌, ℕ, ◌<◌, ◌≤◌, List, [], ◌++◌, length, drop, Result, MatchResult}
 use Rattle.format.specs.declared.plan.Plan.{Plan}
 use Rattle.format.specs.Answers.{file_of}
-use Rattle.format.specs.declared.fault.WriteFault.{WriteFault}
-use Rattle.format.specs.declared.fault.WriteFault.TheVariants.{Unfit, NoRoom}
-use Rattle.records.specs.declared.fault.Fault.{Fault}
-use Rattle.format.specs.Runs.{Unappended}
-use Rattle.load.specs.declared.fault.LoadFault.{LoadFault}
-use Rattle.load.specs.declared.fault.LoadFault.TheVariants.{Reading}
+use Rattle.load.specs.declared.fault.SaveFault.{SaveFault}
+use Rattle.load.specs.declared.fault.SaveFault.TheVariants.{Unfit, NoRoom}
 use Rattle.load.specs.declared.loading.Loaded.{Loaded}
 use Rattle.load.specs.Loading.{Loads, LoadRefused}
 use Rattle.load.specs.Told.{told_load}
 
 -- the number and the values of each fault
-abbrev pub told_save : WriteFault LoadFault → ℕ × List ℕ
+abbrev pub told_save : SaveFault → ℕ × List ℕ
 told_save (Unfit f) = told_load f
 told_save NoRoom = (13, [])
-
--- why bytes are not made, as a fault of loading
-pub record Unmade (all : List ℕ) (f : LoadFault) : Type 0 where
-  pub fault : Fault
-  pub is : f ≡ Reading fault
-  pub unappended : Unappended all fault
 
 -- why a plan is not written into a list of `room` bytes, by number and values: its bytes would not be loaded, the list is too short, or there is no memory
 pub data Unsaved (p : Plan) (room : ℕ) : ℕ → List ℕ → Type 0 where
@@ -38,5 +28,5 @@ pub record Saves (p : Plan) (was now : List ℕ) (n : ℕ) : Type 0 where
   pub after : now ≡ file_of p ++ drop n was
 
 -- where the plan is not written the list is as it was
-abbrev pub Saved : Plan → List ℕ → List ℕ → Result ℕ (WriteFault LoadFault) → Type 0
+abbrev pub Saved : Plan → List ℕ → List ℕ → Result ℕ SaveFault → Type 0
 Saved p was now r = MatchResult r (Saves p was now) (λ f. Unsaved p (length was) (told_save f).0 (told_save f).1 × (now ≡ was))

@@ -3,8 +3,8 @@ ghost use Rattle.std.specs.Prelude.{◌≡◌, [], ◌∷◌, MatchOption};
 ghost use Rattle.load.specs.Closures.{told_closure};
 ghost use Rattle.load.specs.Told.{told_load, lower_list};
 ghost use Rattle.load.specs.declared.fault.LoadFault.TheVariants.{Reading as NotRead, Planning as NotPlanned};
+ghost use Rattle.load.specs.declared.fault.SaveFault.TheVariants.{Unfit as NotLoaded};
 
-use format::fault::WriteFault;
 use plans::refusal::Refusal;
 use records::fault::Fault;
 
@@ -75,5 +75,26 @@ impl From<Refusal> for LoadFault {
     }
 }
 
-// Why a plan is not saved: loading would refuse its bytes, or the output list is too short.
-pub type SaveFault = WriteFault<LoadFault>;
+#[derive(Clone, Copy, Debug, PartialEq, Eq)]
+pub enum SaveFault {
+    // Loading would refuse the bytes, with this fault.
+    Unfit(LoadFault),
+    // The output list is too short.
+    NoRoom,
+}
+
+impl From<LoadFault> for SaveFault {
+    ghost from_gives = { λ f r. r ≡ NotLoaded f };
+
+    fn from(fault: LoadFault) -> SaveFault {
+        SaveFault::Unfit(fault)
+    }
+}
+
+impl From<Fault> for SaveFault {
+    ghost from_gives = { λ f r. r ≡ NotLoaded (NotRead f) };
+
+    fn from(fault: Fault) -> SaveFault {
+        SaveFault::Unfit(LoadFault::Reading(fault))
+    }
+}

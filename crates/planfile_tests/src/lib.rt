@@ -39,12 +39,7 @@ mod tests {
     }
 
     // Writing a plan of these parts into a list of 300 nines is refused with this fault, and the list stays as it was.
-    fn refuses(
-        heap: Global,
-        parts: Parts,
-        closures: usize,
-        fault: WriteFault<Fault>,
-    ) -> Result<(), Fail> {
+    fn refuses(heap: Global, parts: Parts, closures: usize, fault: WriteFault) -> Result<(), Fail> {
         let mut out = vec![in heap; 9u8; 300]?;
         if write_plan(heap, &plan(heap, parts, closures)?, out.as_mut_slice()) != Err(fault) {
             return Err(Fail::new("another answer"));

@@ -35,7 +35,7 @@ dealt_none m cs = record {
 }
 
 -- one channel more
-dealt_more : (m : ℕ) (cs : List Channel) (k : ℕ) (all : List (List Subchannel)) (xs : List Subchannel) (first : ℕ) (period : Option ℕ) (q : Progress) → DealtTo m cs k all first period → Takes m (count_at cs k) (begins m cs k) → OneDealt m (count_at cs k) (begins m cs k) period xs q → DealtTo m cs (k + 1) (all ++ (xs ∷ [])) q.first q.period
+pub dealt_more : (m : ℕ) (cs : List Channel) (k : ℕ) (all : List (List Subchannel)) (xs : List Subchannel) (first : ℕ) (period : Option ℕ) (q : Progress) → DealtTo m cs k all first period → Takes m (count_at cs k) (begins m cs k) → OneDealt m (count_at cs k) (begins m cs k) period xs q → DealtTo m cs (k + 1) (all ++ (xs ∷ [])) q.first q.period
 dealt_more m cs k all xs first period q h t d = record {
   next = rw (add-one k) d.next;
   deals = below_more _ _ h.deals (t, omega (arith, d.next, q.in_range));

@@ -51,12 +51,13 @@ pub fn put_bytes(bytes: &[u8], out: &mut [u8]) -> Option<usize>
 
 // Writes a plan to the beginning of `out`, and answers how many bytes it took. What reading would refuse is not written, and then `out` stays as it was.
 // Kept so: one function for this and the load crate's `save` would take the reading as a closure, and a public function must ask its callers then that the closure may be called.
-pub fn write_plan(heap: Global, plan: &Plan, out: &mut [u8]) -> Result<usize, WriteFault<Fault>>
+pub fn write_plan(heap: Global, plan: &Plan, out: &mut [u8]) -> Result<usize, WriteFault>
     ensures writes { Written plan.now out.old out.new result }
     ensures reads_back { ReadsBack plan.now out.new result }
     ensures writes_back { WritesBack plan.now out.old out.new result }
 {
     let bytes = plan_bytes(heap, plan)?;
     read_plan(heap, bytes.as_slice())?;
-    put_bytes(bytes.as_slice(), out).ok_or(WriteFault::NoRoom)
+    let length = put_bytes(bytes.as_slice(), out).ok_or(WriteFault::NoRoom)?;
+    Ok(length)
 }

@@ -1,4 +1,4 @@
-ghost use Rattle.std.specs.Prelude.{length};
+ghost use Rattle.std.specs.Prelude.{◌≤◌, length};
 ghost use Rattle.receiver.specs.Promises.{Takes};
 
 use crate::refusal::Refusal;
@@ -24,15 +24,16 @@ pub struct Numbers {
 impl Numbers {
     // Holds the wanted ones among a slot's pages, if the stock that they make is within the capacity.
     pub(crate) fn take_in(&mut self, film: &mut [u8], pages: &[u16]) -> Result<(), Refusal>
+        requires short { length film.old ≤ 65535 }
         ensures takes_or_refuses { Takes (length film.old) pages.now
             self.old film.old result self.new film.new }
     {
         let stock = slot::stock_of(film, pages);
-        if stock > usize::from(self.capacity) {
+        if stock > self.capacity {
             return Err(Refusal::Full);
         }
         slot::take_in(film, pages);
-        self.peak = self.peak.max(stock as u16);
+        self.peak = self.peak.max(stock);
         Ok(())
     }
 }

@@ -11,5 +11,5 @@ pub fn stock(store: &[u8], film: u16, pages: &[u16]) -> Result<u16, Refusal>
     let (bytes, _) = store
         .split_at_checked(usize::from(film))
         .ok_or(Refusal::OutOfRange)?;
-    Ok(slot::stock_of(bytes, pages) as u16)
+    Ok(slot::stock_of(bytes, pages))
 }

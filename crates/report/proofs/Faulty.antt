@@ -11,7 +11,7 @@ use Rattle.report.specs.declared.fault.ReportFault.TheVariants.{Loading, Memory}
 use Rattle.report.specs.Reports.{ToldBy, Untold, FaultLine, ReportedBy, plan, fault}
 
 module _ (Lines : Loaded → List Line → Type 0) (file : List ℕ) where
-  fault_reported : (f : ReportFault) (ls : List Line) → Untold file f → FaultLine f ls → ReportedBy Lines file ls
+  pub fault_reported : (f : ReportFault) (ls : List Line) → Untold file f → FaultLine f ls → ReportedBy Lines file ls
   fault_reported (Loading f) ls u l =
       subst (λ xs. ReportedBy Lines file xs) (sym l.4) (fault l.0 l.1 l.2 (subst (λ t. LoadRefused file t.0 t.1) l.3 u))
   fault_reported Memory ls u l = let z = ap (λ t. length t.1) l.3 in absurd (omega arith)

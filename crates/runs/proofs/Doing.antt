@@ -26,6 +26,15 @@ performs_more s done before after after' s' s'' call r h step noted = record {
       (run_append done (call ∷ []) (map replied h.replies) (replied r ∷ []) s s' s'' h.run (s'', step, refl));
 }
 
+-- two lists of calls, the second after the first
+pub performs_append : (s m s' : State) (xs ys : List Call) (before mid after : List Reply) → Performs s xs before mid m → Performs m ys mid after s' → Performs s (xs ++ ys) before after s'
+performs_append s m s' xs ys before mid after a b = record {
+  replies = a.replies ++ b.replies;
+  noted = b.noted ∙ ap (λ rs. rs ++ b.replies) a.noted ∙ append_assoc before a.replies b.replies;
+  run = subst (λ rs. Run s (xs ++ ys) rs s') (sym (map-append replied a.replies b.replies))
+      (run_append xs ys (map replied a.replies) (map replied b.replies) s m s' a.run b.run);
+}
+
 -- the opening of a script, and then what it leads to
 module _ (M : Meaning) (m n mark : ℕ) (script : Script) (rest : List Call) (built mid last : State) (none first all : List Reply)
     (begins : built ≡ fresh M m n mark) (empty : none ≡ []) (opening : Performs built (vec_items script.opening) none first mid)

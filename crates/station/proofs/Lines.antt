@@ -6,7 +6,7 @@ use Rattle.std.proofs.lemmas.List.{set_at, drop_all}
 use Rattle.timetable.specs.Closed.{line}
 use Rattle.timetable.specs.Meaning.{Meaning}
 
-line_more : (f : ℕ → ℕ) (ys : List ℕ) (i : ℕ) → i < length ys → set (map f (range_with_len 1 i) ++ drop i ys) i (f (i + 1)) ≡ map f (range_with_len 1 (i + 1)) ++ drop (i + 1) ys
+pub line_more : (f : ℕ → ℕ) (ys : List ℕ) (i : ℕ) → i < length ys → set (map f (range_with_len 1 i) ++ drop i ys) i (f (i + 1)) ≡ map f (range_with_len 1 (i + 1)) ++ drop (i + 1) ys
 line_more f ys i l =
     rw (drop-cons ys i 0 l, map-range_with_len_more f 1 i (i + 1) (omega arith), set_at (map f (range_with_len 1 i)) (get_or ys i 0) (drop (suc i) ys) (f (i + 1)) i (length-map-range_with_len f 1 i)) (simp (append_assoc, add-one))
 

@@ -47,6 +47,12 @@ coming_past L p T u end v is e h = record {
   comes = h.comes;
 }
 
+coming_none : (L : ℕ → List ℕ) (p end : ℕ) → Coming L p end end end
+coming_none L p end = record { ahead = (omega arith, omega arith); quiet = λ u a b. absurd (omega arith); comes = λ a. absurd (omega arith) }
+
+pub comings_none : (L : ℕ → List ℕ) (n end : ℕ) (xs : List ℕ) → ((i : ℕ) → i < n → get_or xs i 0 ≡ end) → Comings L n end end xs
+comings_none L n end xs h i l = subst (λ v. Coming L (i + 1) end end v) (sym (h i l)) (coming_none L (i + 1) end)
+
 pub comings_step : (L : ℕ → List ℕ) (n T u end : ℕ) (xs ys : List ℕ) → T ≡ u + 1 → n ≤ length xs → u < end → ys ≡ noted n u xs (L u) → Comings L n T end xs → Comings L n u end ys
 comings_step L n T u end xs ys is room low e h i l =
     subst (λ v. Coming L (i + 1) u end v) (sym (ap (λ z. get_or z i 0) e ∙ getD_noted n u xs (L u) i room l))

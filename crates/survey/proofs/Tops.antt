@@ -13,6 +13,9 @@ top_step S s n b l =
     let f : suc s ≡ s + 1 = omega arith in
     ap (λ k. top S s k b) e ∙ ap (λ x. top S x (n - (s + 1)) (max b (S s))) f
 
+pub top_end : (S : ℕ → ℕ) (s n b : ℕ) → n ≤ s → top S s (n - s) b ≡ b
+top_end S s n b l = let e : n - s ≡ 0 = omega arith in ap (λ k. top S s k b) e
+
 pub top_same : (S R : ℕ → ℕ) (j k b : ℕ) → ((i : ℕ) → j ≤ i → i < j + k → S i ≡ R i) → top S j k b ≡ top R j k b
 top_same S R j zero b h = refl
 top_same S R j (suc k) b h =

@@ -1,6 +1,7 @@
-use Rattle.std.proofs.Common.{◌≡◌, length, sym, refl, ◌∙◌, subst}
+use Rattle.std.proofs.Common.{◌≡◌, ℕ, length, Result, Ok, sym, refl, ◌∙◌, subst}
 use Rattle.records.proofs.Exits.{exit}
 use Rattle.records.specs.Faults.{told}
+use Rattle.format.specs.declared.fault.WriteFault.{WriteFault}
 use Rattle.format.specs.declared.fault.WriteFault.TheVariants.{Unfit}
 use Rattle.format.specs.Answers.{Reads}
 use Rattle.format.specs.Format.{Refused}
@@ -29,6 +30,21 @@ returns-in_err-read_plan c =
     (unfit _ _ (subst (λ l. Refused l (told f).0 (told f).1) same c.in_err-read_plan.ensures.answers), refl) in
     record { writes = w; reads_back = reads_back p out out r w; writes_back = writes_back p out out r w }
 
+pub returns-in_err-length : goal.returns-in_err-length
+returns-in_err-length c =
+    let p = c.args.plan.now in
+    let q = c.in_ok-read_plan.field-0 in
+    let made = c.in_ok-bytes.ensures.makes_the_bytes in
+    let read = subst (λ l. Reads l q) (c.as_slice.ensures.value ∙ made) c.in_ok-read_plan.ensures.answers in
+    let written = written_of p q _ c.args.out.now _ _ (c.as_slice-2.ensures.value ∙ made) read c.put_bytes.ensures.puts_all_or_nothing in
+    let was = c.args.out.now in
+    let now = c.put_bytes.new.out in
+    let f = c.in_err-length.field-0.0 in
+    let r = c.from_residual-in_err-length.result in
+    let w : Written p was now r = exit (Wrote p was now) (λ f. Unwritten p (length was) (told_write f).0 (told_write f).1 × (now ≡ was)) r f c.from_residual-in_err-length.ensures.1
+    (subst (Written p was now) (sym c.in_err-length.ensures.value) written) in
+    record { writes = w; reads_back = reads_back p was now r w; writes_back = writes_back p was now r w }
+
 pub returns : goal.returns
 returns c =
     let p = c.args.plan.now in
@@ -38,6 +54,6 @@ returns c =
     let written = written_of p q _ c.args.out.now _ _ (c.as_slice-2.ensures.value ∙ made) read c.put_bytes.ensures.puts_all_or_nothing in
     let was = c.args.out.now in
     let now = c.put_bytes.new.out in
-    let r = c.ok_or.result in
-    let w = subst (Written p was now) (sym c.ok_or.ensures.value) written in
+    let r : Result ℕ WriteFault = Ok c.in_ok-length.length in
+    let w : Written p was now r = subst (Written p was now) (sym c.in_ok-length.ensures.value) written in
     record { writes = w; reads_back = reads_back p was now r w; writes_back = writes_back p was now r w }

@@ -9,6 +9,12 @@ overflow_add-result c =
     let few = stock_le (length c.args.film.now) c.args.film.now c.args.pages.now in
     omega arith
 
+pub overflow_cast-result : goal.overflow_cast-result
+overflow_cast-result c =
+    let e = stock_is (length c.args.film.now) c.args.film.now c.args.pages.now (omega arith) in
+    let few = stock_le (length c.args.film.now) c.args.film.now c.args.pages.now in
+    omega arith
+
 pub returns : goal.returns
 returns c =
     let e = stock_is (length c.args.film.now) c.args.film.now c.args.pages.now (omega arith) in

@@ -1,14 +1,7 @@
 use Rattle.std.proofs.Common.{◌≡◌, ◌++◌, length, sym, rules, arith}
 use Rattle.std.proofs.lemmas.List.{take-append-drop}
 use Rattle.receiver.proofs.Films.{weighs}
-use Rattle.receiver.proofs.Stores.{stock_le}
 use Rattle.receiver.proofs.stock.stock.Goals as goal
-
-pub overflow_cast-result : goal.overflow_cast-result
-overflow_cast-result c =
-    let whole : length c.in_ok-bytes.bytes.now ≡ c.args.film = search rules in
-    let few = stock_le (length c.in_ok-bytes.bytes.now) c.in_ok-bytes.bytes.now c.args.pages.now in
-    omega arith
 
 pub returns : goal.returns
 returns c =

@@ -2,11 +2,10 @@ use Rattle.std.proofs.Common.{◌≡◌, cond, ◌++◌, map, vec_items, ap, ◌
 use Rattle.feeding.specs.Feeding.{fed, left}
 use Rattle.guarantee.proofs.Theorem.{runs_serve}
 use Rattle.guarantee.specs.Spells.{lines_from}
-use Rattle.station.specs.States.{seen, passed}
+use Rattle.station.specs.States.{seen}
 use Rattle.runs.specs.Rehearsals.{told_of}
 use Rattle.runs.proofs.Doing.{script_chosen, script_run}
 use Rattle.runs.proofs.rehearse.rehearse.Goals as goal
-use Rattle.runs.proofs.rehearse.rehearse.Goals.{then-is_passed, else-is_passed}
 
 pub returns : goal.returns
 returns g c =
@@ -16,12 +15,9 @@ returns g c =
     let built = seen (g.T.Timetable.meaning c.new-station.result.table) c.new-station.result in
     let mid = seen (g.T.Timetable.meaning c.perform_all.new.station.table) c.perform_all.new.station in
     let last = seen (g.T.Timetable.meaning c.perform_all-2.new.station.table) c.perform_all-2.new.station in
-    let rest = vec_items c.if-is_passed.rest in
+    let rest = vec_items c.chosen-rest.result in
     let all = vec_items c.perform_all-2.new.replies in
-    let choice : rest ≡ cond (passed mid.phase) (vec_items script.passed) (vec_items script.otherwise) = elim c.if-is_passed.branch [
-      | then-is_passed w ↦ ap vec_items w.rest-is ∙ ap (λ b. cond b (vec_items script.passed) (vec_items script.otherwise)) (w.if-is_passed.ensures.by_phase)
-      | else-is_passed w ↦ ap vec_items w.rest-is ∙ ap (λ b. cond b (vec_items script.passed) (vec_items script.otherwise)) (w.if-is_passed.ensures.by_phase)
-    ] in
+    let choice = c.chosen-rest.ensures.one_or_other ∙ ap (λ b. cond b (vec_items script.passed) (vec_items script.otherwise)) c.is_passed.ensures.by_phase in
     let begins = c.new-station.ensures.is_fresh in
     let empty = c.new-replies.ensures.items in
     let opening = c.in_ok-perform_all.ensures.performs_all in
