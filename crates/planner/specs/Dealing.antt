@@ -1,8 +1,8 @@
 -- What the steps of dealing pages leave.
-use Rattle.std.specs.Prelude.{◌≡◌, ℕ, ◌<◌, ◌⊎◌, List, [], ◌++◌, length, map, vec_items, Option, Result, MatchResult}
+use Rattle.std.specs.Prelude.{◌≡◌, ℕ, ◌<◌, ◌⊎◌, List, [], ◌++◌, length, take, vec_items, Option, Result, MatchResult}
 use Rattle.std.specs.Global.{Vec}
 use Rattle.records.specs.declared.kinds.Channel.{Channel}
-use Rattle.planner.specs.Pagoda.{Deals, BadChannel, laid, subchannels_of, first_of, begins, channel_cycles, cycles}
+use Rattle.planner.specs.Pagoda.{Deals, BadChannel, Laid, subchannels_of, first_of, begins, channel_cycles, cycles}
 use Rattle.plans.specs.Periods.{PeriodOf}
 use Rattle.plans.specs.Refusals.{told}
 use Rattle.planner.specs.declared.pagoda.progress.Progress.{Progress}
@@ -16,21 +16,22 @@ pub record OneDealt (m s f : ℕ) (period : Option ℕ) (xs : List Subchannel) (
   pub next : p.first ≡ first_of m s f s
   pub together : (ns : List ℕ) → PeriodOf ns period → PeriodOf (ns ++ channel_cycles m s f s) p.period
 
--- or its pages pass 1,024, told by 3; or there is no memory
-abbrev pub ChannelDealt : ℕ → ℕ → ℕ → Option ℕ → Result (Vec Subchannel × Progress) Refusal → Type 0
-ChannelDealt m s f period answer =
-    MatchResult answer (λ r. OneDealt m s f period (vec_items r.0) r.1)
-    (λ e. ((told e ≡ (3, [])) × (1025 < first_of m s f s)) ⊎ (told e ≡ (0, [])))
+-- the list xs of one channel begins with its subchannels; or its pages pass 1,024, told by 3
+abbrev pub ChannelDealt : ℕ → ℕ → ℕ → Option ℕ → List Subchannel → Result Progress Refusal → Type 0
+ChannelDealt m s f period xs answer =
+    MatchResult answer (OneDealt m s f period (take s xs))
+    (λ e. (told e ≡ (3, [])) × (1025 < first_of m s f s))
 
 -- the first k channels are dealt their pages
 pub record DealtTo (m : ℕ) (cs : List Channel) (k : ℕ) (all : List (List Subchannel)) (first : ℕ) (period : Option ℕ) : Type 0 where
   pub next : first ≡ begins m cs k
   pub deals : Deals m cs k
-  pub lists : all ≡ laid m cs k
+  pub many : length all ≡ k
+  pub lists : Laid m cs k all
   pub together : PeriodOf (cycles m cs k) period
 
 -- all channels are, or one gets no pages, or there is no memory
-abbrev pub AllDealt : ℕ → List Channel → Result (Vec (Vec Subchannel) × Progress) Refusal → Type 0
+abbrev pub AllDealt : ℕ → List Channel → Result (Vec (List Subchannel) × Progress) Refusal → Type 0
 AllDealt m cs answer =
-    MatchResult answer (λ r. DealtTo m cs (length cs) (map vec_items (vec_items r.0)) r.1.first r.1.period)
+    MatchResult answer (λ r. DealtTo m cs (length cs) (vec_items r.0) r.1.first r.1.period)
     (λ e. BadChannel m cs (told e) ⊎ (told e ≡ (0, [])))

@@ -1,7 +1,7 @@
 -- The pagoda plan of a delay m and the subchannel counts of some channels. A channel of s subchannels lends them its
 -- slots in turn, so that each has every s-th slot; a subchannel carries some pages one after the other, over and over.
 -- The pages 1, 2, 3 and so on are dealt to the channels in order, and on each channel to its subchannels in order.
-use Rattle.std.specs.Prelude.{◌≡◌, ℕ, zero, suc, ◌+◌, ◌-◌, ◌*◌, ◌/◌, ◌%◌, ◌<◌, ◌≤◌, ◌⊎◌, List, [], ◌∷◌, ◌++◌, length, get_or}
+use Rattle.std.specs.Prelude.{◌≡◌, ℕ, zero, suc, ◌+◌, ◌-◌, ◌*◌, ◌/◌, ◌%◌, ◌<◌, ◌≤◌, ◌⊎◌, List, [], ◌∷◌, ◌++◌, length, get_or, take}
 use Rattle.records.specs.declared.kinds.Channel.{Channel}
 use Rattle.timetable.specs.Meaning.{Meaning, Lawful, repeating, repeating_lawful}
 use Rattle.timetable.specs.Windows.{window}
@@ -83,10 +83,10 @@ abbrev pub subchannels_of : ℕ → ℕ → ℕ → ℕ → List Subchannel
 subchannels_of m s f zero = []
 subchannels_of m s f (suc j) = subchannels_of m s f j ++ (record { first = first_of m s f j; pages = share_of m s f j } ∷ [])
 
--- the subchannels of each of the first k channels
-abbrev pub laid : ℕ → List Channel → ℕ → List (List Subchannel)
-laid m cs zero = []
-laid m cs (suc k) = laid m cs k ++ (subchannels_of m (count_at cs k) (begins m cs k) (count_at cs k) ∷ [])
+-- the lists of the first k channels begin with their subchannels
+abbrev pub Laid : ℕ → List Channel → ℕ → List (List Subchannel) → Type 0
+Laid m cs k lists =
+    (i : ℕ) → i < k → take (count_at cs i) (get_or lists i []) ≡ subchannels_of m (count_at cs i) (begins m cs i) (count_at cs i)
 
 -- channel k is the first that gets no pages: it may not have its subchannels, told by 2, or its pages pass 1,024, told by 3
 pub record BadChannel (m : ℕ) (cs : List Channel) (t : ℕ × List ℕ) : Type 0 where

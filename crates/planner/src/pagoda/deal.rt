@@ -2,6 +2,7 @@ ghost use Rattle.std.specs.Prelude.{◌≤◌, length};
 ghost use Rattle.planner.specs.Dealing.{AllDealt, ChannelDealt};
 ghost use Rattle.planner.specs.Pagoda.{Takes};
 
+use super::MOST_SUBCHANNELS;
 use super::progress::Progress;
 use crate::subchannel::Subchannel;
 use plans::period::joined;
@@ -13,16 +14,15 @@ use std::alloc::Global;
 const MOST_PAGES: u16 = 1024;
 
 impl Progress {
-    // Deals pages to the subchannels of the next channel, or refuses where they pass 1,024.
+    // Deals pages to the subchannels of the next channel, which its list then begins with, or refuses where they pass 1,024.
     fn deal_channel(
         self,
-        heap: Global,
+        list: &mut [Subchannel; MOST_SUBCHANNELS],
         subchannels: u8,
-    ) -> Result<(Vec<Subchannel>, Progress), Refusal>
+    ) -> Result<Progress, Refusal>
         requires takes { Takes self.delay subchannels self.first }
-        ensures dealt { ChannelDealt self.delay subchannels self.first self.period result }
+        ensures dealt { ChannelDealt self.delay subchannels self.first self.period list.new result }
     {
-        let mut dealt = Vec::with_capacity(heap, usize::from(subchannels))?;
         let mut next = self;
         for turn in 0..subchannels {
             let first = next.first;
@@ -30,14 +30,14 @@ impl Progress {
             if first + pages > MOST_PAGES + 1 {
                 return Err(Refusal::TooManyPages);
             }
-            dealt.push_reserved(Subchannel { first, pages });
+            list[usize::from(turn)] = Subchannel { first, pages };
             next = Progress {
                 delay: self.delay,
                 first: first + pages,
                 period: joined(next.period, u32::from(subchannels) * u32::from(pages)),
             };
         }
-        Ok((dealt, next))
+        Ok(next)
     }
 }
 
@@ -46,7 +46,7 @@ pub(super) fn deal(
     heap: Global,
     delay: u16,
     channels: &[Channel],
-) -> Result<(Vec<Vec<Subchannel>>, Progress), Refusal>
+) -> Result<(Vec<[Subchannel; MOST_SUBCHANNELS]>, Progress), Refusal>
     requires in_range { (1 ≤ delay) × (delay ≤ 1024) × (length channels.now ≤ 8) }
     ensures all_dealt { AllDealt delay channels.now result }
 {
@@ -56,14 +56,15 @@ pub(super) fn deal(
         first: 1,
         period: Some(1),
     };
+    let blank = Subchannel { first: 0, pages: 0 };
     for channel in channels {
         let subchannels = channel.subchannels;
         if !progress.takes(subchannels) {
             return Err(Refusal::WrongSubchannels);
         }
-        let (dealt, next) = progress.deal_channel(heap, subchannels)?;
-        all.push_reserved(dealt);
-        progress = next;
+        let index = all.len();
+        all.push_reserved([blank; MOST_SUBCHANNELS]);
+        progress = progress.deal_channel(&mut all[index], subchannels)?;
     }
     Ok((all, progress))
 }

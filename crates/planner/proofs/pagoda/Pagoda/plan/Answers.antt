@@ -1,6 +1,6 @@
-use Rattle.std.proofs.Common.{ℕ, ◌≡◌, ◌-◌, List, length, vec_items, vec_len, map, Option, subst, arith}
+use Rattle.std.proofs.Common.{ℕ, ◌≡◌, ◌-◌, List, length, vec_items, vec_len, Option, subst, arith}
 use Rattle.records.specs.declared.kinds.Channel.{Channel}
-use Rattle.planner.specs.Pagoda.{Deals, laid, cycles, pagoda_pages}
+use Rattle.planner.specs.Pagoda.{Deals, Laid, cycles, pagoda_pages}
 use Rattle.plans.specs.Periods.{PeriodOf}
 use Rattle.planner.proofs.PagodaPlans.{pagoda_sound}
 use Rattle.planner.proofs.Questions.{moved}
@@ -16,10 +16,11 @@ invariant_of-result c =
     record {
       few = omega (arith, made.len, c.if-not-askable.ensures.decides.channels);
       positive = period.2;
+      lists = omega (arith, dealt.many, c.in_ok-dealt.dealt.ok.0, made.len);
       deals =
           moved (λ (cs : List Channel) (n : ℕ). Deals m cs n) cs (vec_items c.in_ok-channels.channels) (length cs) (vec_len c.in_ok-channels.channels) made.items made.len dealt.deals;
       laid =
-          moved (λ (cs : List Channel) (n : ℕ). map vec_items (vec_items c.in_ok-dealt.dealt) ≡ laid m cs n) cs (vec_items c.in_ok-channels.channels) (length cs) (vec_len c.in_ok-channels.channels) made.items made.len dealt.lists;
+          moved (λ (cs : List Channel) (n : ℕ). Laid m cs n (vec_items c.in_ok-dealt.dealt)) cs (vec_items c.in_ok-channels.channels) (length cs) (vec_len c.in_ok-channels.channels) made.items made.len dealt.lists;
     }
 
 pub returns-clause-starves_nobody : goal.returns-clause-starves_nobody

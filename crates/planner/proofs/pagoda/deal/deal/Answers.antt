@@ -1,8 +1,7 @@
-use Rattle.std.proofs.Common.{◌+◌, List, map, vec_items, refl, sym, ap, ◌∙◌, subst, arith}
-use Rattle.std.proofs.lemmas.List.{map_push}
+use Rattle.std.proofs.Common.{◌+◌, List, slice_set, vec_items, refl, sym, ap, ◌∙◌, subst, arith}
 use Rattle.planner.specs.Dealing.{DealtTo}
 use Rattle.planner.specs.declared.subchannel.Subchannel.{Subchannel}
-use Rattle.planner.proofs.Table.{dealt_none, dealt_next}
+use Rattle.planner.proofs.Table.{dealt_none, dealt_next, last_written}
 use Rattle.planner.proofs.pagoda.deal.deal.Goals as goal
 
 pub loop-channel-init : goal.loop-channel-init
@@ -19,14 +18,15 @@ pub loop-channel-preserved : goal.loop-channel-preserved
 loop-channel-preserved c =
     let i = c.loop-channel.invariant in
     let before = vec_items c.loop-channel.all in
+    let list = c.deal_channel.new.list in
     record {
-      delay = c.in_ok-dealt.ensures.dealt.delay ∙ i.delay;
-      in_range = (omega (arith, c.in_ok-dealt.next.in_range), omega (arith, c.in_ok-dealt.next.in_range));
+      delay = c.in_ok-progress.ensures.dealt.delay ∙ i.delay;
+      in_range = (omega (arith, c.in_ok-progress.progress.in_range), omega (arith, c.in_ok-progress.progress.in_range));
       places = c.push_reserved.ensures.capacity ∙ i.places;
       many = omega (arith, c.push_reserved.ensures.len, i.many);
       so_far =
-          subst (λ (all : List (List Subchannel)). DealtTo c.args.delay c.args.channels.now (c.loop-channel.channel-index + 1) all c.in_ok-dealt.next.first c.in_ok-dealt.next.period)
-          (sym (ap (map vec_items) c.push_reserved.ensures.items ∙ map_push vec_items before c.in_ok-dealt.dealt))
-          (dealt_next c.args.delay c.args.channels.now c.loop-channel.channel-index _ (map vec_items before) (vec_items c.in_ok-dealt.dealt) c.loop-channel.progress.0 c.loop-channel.progress.1.0 c.loop-channel.progress.1.1.0 c.in_ok-dealt.next i.delay refl i.so_far
-          c.if-not-takes.ensures.decides c.in_ok-dealt.ensures.dealt);
+          subst (λ (all : List (List Subchannel)). DealtTo c.args.delay c.args.channels.now (c.loop-channel.channel-index + 1) all c.in_ok-progress.progress.first c.in_ok-progress.progress.period)
+          (sym (ap (λ (all : List (List Subchannel)). slice_set all c.len-index.result list) c.push_reserved.ensures.items ∙ last_written before _ list c.len-index.result (omega (arith, c.len-index.ensures, c.loop-channel.all.ok.0))))
+          (dealt_next c.args.delay c.args.channels.now c.loop-channel.channel-index _ before list c.loop-channel.progress.0 c.loop-channel.progress.1.0 c.loop-channel.progress.1.1.0 c.in_ok-progress.progress i.delay refl i.so_far
+          c.if-not-takes.ensures.decides c.in_ok-progress.ensures.dealt);
     }

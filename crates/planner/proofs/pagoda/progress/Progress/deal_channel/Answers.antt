@@ -1,9 +1,9 @@
-use Rattle.std.proofs.Common.{◌≡◌, ℕ, ◌+◌, ◌*◌, List, ◌++◌, vec_items, refl, sym, ◌∙◌, subst, inl, mul-pos, arith}
-use Rattle.std.proofs.lemmas.List.{append-nil}
+use Rattle.std.proofs.Common.{◌≡◌, ℕ, ◌+◌, ◌*◌, List, ◌++◌, take, refl, sym, ◌∙◌, subst, mul-pos, arith}
+use Rattle.std.proofs.lemmas.List.{append-nil, length-set}
 use Rattle.plans.specs.Periods.{PeriodOf}
 use Rattle.planner.specs.Pagoda.{first_of, channel_cycles, share, subchannels_of}
 use Rattle.planner.proofs.Channels.{first_of_grows, share_some}
-use Rattle.planner.proofs.Table.{next_dealt, next_first, next_share, next_period}
+use Rattle.planner.proofs.Table.{next_dealt, next_first, next_share, next_period, next_written}
 use Rattle.planner.proofs.pagoda.progress.Progress.deal_channel.Goals as goal
 
 same_product : (a b x y : ℕ) → a ≡ x → b ≡ y → a * b ≡ x * y
@@ -20,9 +20,8 @@ loop-turn-init c =
       low = omega arith;
       high = omega arith;
       next = refl;
-      places = omega (arith, c.in_ok-dealt.ensures.exact);
-      many = c.in_ok-dealt.ensures.len;
-      lists = c.in_ok-dealt.ensures.items;
+      places = c.told-list;
+      lists = refl;
       together = λ xs h. subst (λ (ys : List ℕ). PeriodOf ys c.args.self.period) (sym (append-nil xs)) h;
     }
 
@@ -31,10 +30,7 @@ returns-then-first-pages c =
     let shared = pages_shared c.args.self.delay c.args.subchannels _ _ c.pages_next-pages.result c.loop-turn.invariant.delay c.pages_next-pages.ensures.share_of_window in
     let grows = first_of_grows c.args.self.delay c.args.subchannels c.args.self.first (c.loop-turn.turn + 1) c.args.subchannels (omega arith) in
     let next = next_first c.args.self.delay c.args.subchannels c.args.self.first c.loop-turn.turn c.loop-turn.next.1.0 c.pages_next-pages.result c.loop-turn.invariant.next shared in
-    record { dealt = inl (refl, omega (arith, grows, next)) }
-
-pub push_reserved-requires : goal.push_reserved-requires
-push_reserved-requires c = omega (arith, c.loop-turn.invariant.many, c.loop-turn.invariant.places)
+    record { dealt = (refl, omega (arith, grows, next)) }
 
 pub loop-turn-preserved : goal.loop-turn-preserved
 loop-turn-preserved c =
@@ -50,9 +46,8 @@ loop-turn-preserved c =
       low = omega arith;
       high = omega arith;
       next = next_first m s f n c.loop-turn.next.1.0 c.pages_next-pages.result i.next pages;
-      places = c.push_reserved.ensures.capacity ∙ i.places;
-      many = omega (arith, c.push_reserved.ensures.len, i.many);
-      lists = c.push_reserved.ensures.items ∙ next_dealt m s f n c.loop-turn.next.1.0 c.pages_next-pages.result (vec_items c.loop-turn.dealt) i.next shared i.lists;
+      places = length-set c.loop-turn.list _ _ ∙ i.places;
+      lists = next_written c.loop-turn.list n _ _ c.from.ensures (omega (arith, i.places, c.requires.takes.1)) ∙ next_dealt m s f n c.loop-turn.next.1.0 c.pages_next-pages.result (take n c.loop-turn.list) i.next shared i.lists;
       together = λ xs h.
           next_period m s f n xs _ _
           (same_product _ _ _ _ (omega arith) (omega (arith, shared)))
@@ -70,7 +65,7 @@ returns c =
     let all : c.loop-turn.turn ≡ s = omega arith in
     record {
       dealt = record {
-        subchannels = subst (λ (n : ℕ). vec_items c.loop-turn.dealt ≡ subchannels_of m s f n) all i.lists;
+        subchannels = subst (λ (n : ℕ). take n c.loop-turn.list ≡ subchannels_of m s f n) all i.lists;
         next = subst (λ (n : ℕ). c.loop-turn.next.1.0 ≡ first_of m s f n) all i.next;
         delay = i.delay;
         together = λ ns h. subst (λ (n : ℕ). PeriodOf (ns ++ channel_cycles m s f n) c.loop-turn.next.1.1.0) all (i.together ns h);

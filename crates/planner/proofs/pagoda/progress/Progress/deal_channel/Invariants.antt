@@ -1,5 +1,4 @@
-use Rattle.std.proofs.Common.{◌≡◌, ℕ, ◌≤◌, List, ◌++◌, vec_items, vec_len}
-use Rattle.std.specs.Vec.{vec_capacity}
+use Rattle.std.proofs.Common.{◌≡◌, ℕ, ◌≤◌, List, ◌++◌, length, take}
 use Rattle.planner.specs.Pagoda.{first_of, channel_cycles, subchannels_of}
 use Rattle.plans.specs.Periods.{PeriodOf}
 use Rattle.planner.proofs.pagoda.progress.Progress.deal_channel.Given as goal
@@ -11,8 +10,7 @@ invariant-loop-turn l =
       low : 1 ≤ l.next.1.0;
       high : l.next.1.0 ≤ 1025;
       next : l.next.1.0 ≡ first_of l.self.delay l.subchannels l.self.first l.turn;
-      places : vec_capacity l.dealt ≡ l.subchannels;
-      many : vec_len l.dealt ≡ l.turn;
-      lists : vec_items l.dealt ≡ subchannels_of l.self.delay l.subchannels l.self.first l.turn;
+      places : length l.list ≡ 32;
+      lists : take l.turn l.list ≡ subchannels_of l.self.delay l.subchannels l.self.first l.turn;
       together : (xs : List ℕ) → PeriodOf xs l.self.period → PeriodOf (xs ++ channel_cycles l.self.delay l.subchannels l.self.first l.turn) l.next.1.1.0;
     }
