@@ -1,10 +1,10 @@
 -- A single record: what a reader of one kind finds, as one of the records of a file.
-use Rattle.std.proofs.Common.{◌≡◌, ℕ, List, ◌∷◌, IsErrAnd, Some, None, Ok, Err, Option, Result, sym, refl, ap, ◌∙◌, subst}
+use Rattle.std.proofs.Common.{◌≡◌, ℕ, List, IsErrAnd, Some, None, Ok, Err, Option, Result, sym, refl, ap, ◌∙◌, subst}
 use Rattle.std.proofs.lemmas.Result.{err_from_is_err_and}
-use Rattle.records.specs.Places.{Spans, Found, Opens, Cuts}
+use Rattle.records.specs.Places.{Spans, Opens, Cuts}
 use Rattle.records.specs.declared.fault.Fault.{Fault}
 use Rattle.records.specs.declared.fault.Fault.TheVariants.{CutShort}
-use Rattle.format.specs.Items.{Item, kind, size, body, bytes, Stood}
+use Rattle.format.specs.Items.{Item, kind, size, bytes, Stood}
 
 module _ {X : Type 0} (item : X → Item) (file : List ℕ) (a : ℕ) where
   -- a record that is cut short, handed on by `?`

@@ -75,6 +75,8 @@ impl From<Refusal> for LoadFault {
     }
 }
 
+// Why a plan is not saved.
+// Kept so: as one type with `WriteFault` it could not be made from a `Fault`, since an `impl` of std's trait has to name a type of its own crate.
 #[derive(Clone, Copy, Debug, PartialEq, Eq)]
 pub enum SaveFault {
     // Loading would refuse the bytes, with this fault.

@@ -11,7 +11,8 @@ use station::station::Station;
 use std::alloc::{AllocError, Global};
 use timetable::interface::Timetable;
 
-// One of two lists of calls; the other is let go here, with the memory that its calls hold.
+// Kept so: as an `if` in `rehearse` it would keep the other list, with the memory that its calls hold, until the whole run is made.
+// One of two lists of calls; the other is let go here.
 fn chosen(first: bool, one: Vec<Call>, other: Vec<Call>) -> Vec<Call>
     ensures one_or_other { result.items ≡ (if first then one.items else other.items) }
 {
