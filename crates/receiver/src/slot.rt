@@ -56,7 +56,7 @@ fn fresh_count(film: &[u8], pages: &[u16]) -> usize
 }
 
 // The stock in a slot with these pages.
-pub fn stock_of(film: &[u8], pages: &[u16]) -> u16
+pub(crate) fn stock_of(film: &[u8], pages: &[u16]) -> u16
     requires short { length film.now ≤ 65535 }
     ensures held_and_fresh { result ≡ stock (length film.now) film.now pages.now }
 {
