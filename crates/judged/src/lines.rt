@@ -29,7 +29,7 @@ fn plan_lines(heap: Global, bytes: &[u8]) -> Result<Vec<Line>, ReportFault>
     Ok(lines)
 }
 
-// Kept so: with the report crate's `or_fault_line` in its place, an edit that tells another byte takes the finished line apart, and is refused for that form and not for the byte.
+// Kept so: with the report crate's `or_fault_line` in its place, a must-fail edit that tells another byte has to take the finished line apart, and is refused for that form and not for the byte.
 // The one line on a fault, unless it is want of memory.
 fn fault_line(heap: Global, fault: ReportFault) -> Result<Vec<Line>, AllocError>
     ensures tells_the_fault { IfOk result (λ v. FaultLine fault v.items) }
