@@ -1,11 +1,11 @@
--- The subchannels of the channels, one after the other, and the lists that begin with them.
-use Rattle.std.proofs.Common.{◌≡◌, ℕ, zero, suc, ◌+◌, ◌*◌, ◌<◌, List, [], ◌∷◌, ◌++◌, length, get_or, take, set, Some, Option, refl, ap, ◌∙◌, append_assoc, add-one, inl, inr, arith, below_more}
-use Rattle.std.proofs.Math.Seq.{set-append_seam}
+-- The subchannels of the channels, one after the other, and the lists that hold them.
+use Rattle.std.proofs.Common.{◌≡◌, ℕ, zero, suc, ◌+◌, ◌-◌, ◌*◌, ◌<◌, List, [], ◌∷◌, ◌++◌, length, get_or, take, drop, set, map, replicate, Some, Option, sym, refl, ap, ◌∙◌, append_assoc, add-one, inl, inr, arith, below_more}
+use Rattle.std.proofs.Math.Seq.{set-append_seam, take_at}
 use Rattle.std.proofs.lemmas.Bool.{cases_lt}
-use Rattle.std.proofs.lemmas.List.{length_push, get_or_push, get_or_append_left, take_more_set}
+use Rattle.std.proofs.lemmas.List.{length_push, get_or_push, get_or_append_left, get_or-map, take_more_set, take-append-drop, drop-replicate, map_push}
 use Rattle.records.specs.declared.kinds.Channel.{Channel}
 use Rattle.numbers.proofs.All.{lcm_all_none}
-use Rattle.planner.specs.Pagoda.{Takes, count_at, begins, cycles, first_of, share, share_of, channel_cycles, subchannels_of}
+use Rattle.planner.specs.Pagoda.{Takes, count_at, begins, cycles, first_of, share, share_of, channel_cycles, subchannels_of, laid, filled, Laid}
 use Rattle.planner.specs.declared.pagoda.progress.Progress.{Progress}
 use Rattle.plans.specs.Periods.{PeriodOf}
 use Rattle.planner.specs.Dealing.{OneDealt, DealtTo}
@@ -79,3 +79,43 @@ subchannel_of m s f (suc n) j d low =
           let e : n ≡ j = omega arith in
           get_or_push (subchannels_of m s f n) _ d j (many_of m s f n ∙ e) ∙ ap (λ (x : ℕ). record { first = first_of m s f x; pages = share_of m s f x }) e
     ]
+
+-- how many channels have been dealt their subchannels, and those of each
+pub many_laid : (m : ℕ) (cs : List Channel) (k : ℕ) → length (laid m cs k) ≡ k
+many_laid m cs zero = refl
+many_laid m cs (suc k) = length_push (laid m cs k) _ ∙ ap (λ (x : ℕ). x + 1) (many_laid m cs k) ∙ add-one k
+
+pub channel_laid : (m : ℕ) (cs : List Channel) (n k : ℕ) (d : List Subchannel) → k < n → get_or (laid m cs n) k d ≡ subchannels_of m (count_at cs k) (begins m cs k) (count_at cs k)
+channel_laid m cs zero k d low = absurd (omega (arith, low))
+channel_laid m cs (suc n) k d low =
+    elim (cases_lt k n) [
+      | inl less ↦ pushed (laid m cs n) _ d k n (many_laid m cs n) less ∙ channel_laid m cs n k d less
+      | inr more ↦
+          let e : n ≡ k = omega arith in
+          get_or_push (laid m cs n) _ d k (many_laid m cs n ∙ e) ∙ ap (λ (x : ℕ). subchannels_of m (count_at cs x) (begins m cs x) (count_at cs x)) e
+    ]
+
+-- lists that hold the subchannels of their channels and no others begin with them
+pub filled_begins : (m : ℕ) (cs : List Channel) (n : ℕ) (lists : List (List Subchannel)) → lists ≡ map filled (laid m cs n) → Laid m cs n lists
+filled_begins m cs n lists e i low =
+    let s : ℕ = count_at cs i in
+    let own : List Subchannel = subchannels_of m s (begins m cs i) s in
+    ap (λ (all : List (List Subchannel)). take s (get_or all i [])) e
+    ∙ ap (take s) (get_or-map filled (laid m cs n) i [] [] (omega (arith, low, many_laid m cs n)))
+    ∙ ap (λ (l : List Subchannel). take s (filled l)) (channel_laid m cs n i [] low)
+    ∙ take_at own _ s (many_of m s (begins m cs i) s)
+
+-- a list that was blank, begins with the subchannels of a channel and is otherwise as it was holds these and no others
+filled_of : (m s f : ℕ) (before xs : List Subchannel) → before ≡ replicate 32 (record { first = 0; pages = 0 }) → take s xs ≡ subchannels_of m s f s → drop s xs ≡ drop s before → xs ≡ filled (subchannels_of m s f s)
+filled_of m s f before xs blank begun rest =
+    let none : Subchannel = record { first = 0; pages = 0 } in
+    sym (take-append-drop s xs)
+    ∙ ap (λ (l : List Subchannel). l ++ drop s xs) begun
+    ∙ ap (λ (l : List Subchannel). subchannels_of m s f s ++ l)
+    (rest ∙ ap (drop s) blank ∙ drop-replicate s 32 none ∙ ap (λ (n : ℕ). replicate (32 - n) none) (sym (many_of m s f s)))
+
+-- one list more of those that hold the subchannels of their channels and no others
+pub filled_next : (m : ℕ) (cs : List Channel) (k s : ℕ) (all : List (List Subchannel)) (before xs : List Subchannel) (delay first : ℕ) → delay ≡ m → s ≡ count_at cs k → first ≡ begins m cs k → all ≡ map filled (laid m cs k) → before ≡ replicate 32 (record { first = 0; pages = 0 }) → take s xs ≡ subchannels_of delay s first s → drop s xs ≡ drop s before → all ++ (xs ∷ []) ≡ map filled (laid m cs (k + 1))
+filled_next m cs k s all before xs delay first at count begun h blank taken rest =
+    let own : xs ≡ filled (subchannels_of m (count_at cs k) (begins m cs k) (count_at cs k)) = rw (← count, ← begun, ← at) (filled_of delay s first before xs blank taken rest) in
+    rw (add-one k, h, own) (sym (map_push filled (laid m cs k) _))

@@ -1,8 +1,8 @@
 -- What the steps of dealing pages leave.
-use Rattle.std.specs.Prelude.{◌≡◌, ℕ, ◌<◌, ◌⊎◌, List, [], ◌++◌, length, take, vec_items, Option, Result, MatchResult}
+use Rattle.std.specs.Prelude.{◌≡◌, ℕ, ◌<◌, ◌⊎◌, List, [], ◌++◌, length, map, take, vec_items, Option, Result, MatchResult}
 use Rattle.std.specs.Global.{Vec}
 use Rattle.records.specs.declared.kinds.Channel.{Channel}
-use Rattle.planner.specs.Pagoda.{Deals, BadChannel, Laid, subchannels_of, first_of, begins, channel_cycles, cycles}
+use Rattle.planner.specs.Pagoda.{Deals, BadChannel, laid, filled, Laid, subchannels_of, first_of, begins, channel_cycles, cycles}
 use Rattle.plans.specs.Periods.{PeriodOf}
 use Rattle.plans.specs.Refusals.{told}
 use Rattle.planner.specs.declared.pagoda.progress.Progress.{Progress}
@@ -30,8 +30,9 @@ pub record DealtTo (m : ℕ) (cs : List Channel) (k : ℕ) (all : List (List Sub
   pub lists : Laid m cs k all
   pub together : PeriodOf (cycles m cs k) period
 
--- all channels are, or one gets no pages, or there is no memory
+-- all channels are, and each has a list with its subchannels and no others; or one gets no pages, or there is no memory
 abbrev pub AllDealt : ℕ → List Channel → Result (Vec (List Subchannel) × Progress) Refusal → Type 0
 AllDealt m cs answer =
-    MatchResult answer (λ r. DealtTo m cs (length cs) (vec_items r.0) r.1.first r.1.period)
+    MatchResult answer
+    (λ r. DealtTo m cs (length cs) (vec_items r.0) r.1.first r.1.period × (vec_items r.0 ≡ map filled (laid m cs (length cs))))
     (λ e. BadChannel m cs (told e) ⊎ (told e ≡ (0, [])))

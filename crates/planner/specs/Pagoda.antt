@@ -1,7 +1,7 @@
 -- The pagoda plan of a delay m and the subchannel counts of some channels. A channel of s subchannels lends them its
 -- slots in turn, so that each has every s-th slot; a subchannel carries some pages one after the other, over and over.
 -- The pages 1, 2, 3 and so on are dealt to the channels in order, and on each channel to its subchannels in order.
-use Rattle.std.specs.Prelude.{◌≡◌, ℕ, zero, suc, ◌+◌, ◌-◌, ◌*◌, ◌/◌, ◌%◌, ◌<◌, ◌≤◌, ◌⊎◌, List, [], ◌∷◌, ◌++◌, length, get_or, take}
+use Rattle.std.specs.Prelude.{◌≡◌, ℕ, zero, suc, ◌+◌, ◌-◌, ◌*◌, ◌/◌, ◌%◌, ◌<◌, ◌≤◌, ◌⊎◌, List, [], ◌∷◌, ◌++◌, length, get_or, take, replicate}
 use Rattle.records.specs.declared.kinds.Channel.{Channel}
 use Rattle.timetable.specs.Meaning.{Meaning, Lawful, repeating, repeating_lawful}
 use Rattle.timetable.specs.Windows.{window}
@@ -82,6 +82,15 @@ Deals m cs k = (i : ℕ) → i < k → Takes m (count_at cs i) (begins m cs i) �
 abbrev pub subchannels_of : ℕ → ℕ → ℕ → ℕ → List Subchannel
 subchannels_of m s f zero = []
 subchannels_of m s f (suc j) = subchannels_of m s f j ++ (record { first = first_of m s f j; pages = share_of m s f j } ∷ [])
+
+-- the subchannels of each of the first k channels
+abbrev pub laid : ℕ → List Channel → ℕ → List (List Subchannel)
+laid m cs zero = []
+laid m cs (suc k) = laid m cs k ++ (subchannels_of m (count_at cs k) (begins m cs k) (count_at cs k) ∷ [])
+
+-- a list of 32 places for so many subchannels or fewer: they come first, and the places after them are blank
+abbrev pub filled : List Subchannel → List Subchannel
+filled xs = xs ++ replicate (32 - length xs) (record { first = 0; pages = 0 })
 
 -- the lists of the first k channels begin with their subchannels
 abbrev pub Laid : ℕ → List Channel → ℕ → List (List Subchannel) → Type 0

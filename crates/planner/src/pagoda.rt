@@ -1,5 +1,5 @@
-ghost use Rattle.std.specs.Prelude.{◌≡◌, ◌<◌, ◌≤◌, vec_len};
-ghost use Rattle.planner.specs.Pagoda.{Deals, Laid};
+ghost use Rattle.std.specs.Prelude.{◌≡◌, ◌<◌, ◌≤◌, map, vec_len};
+ghost use Rattle.planner.specs.Pagoda.{Deals, Laid, filled, laid};
 
 use crate::subchannel::Subchannel;
 use records::kinds::Channel;
@@ -19,12 +19,13 @@ pub struct Pagoda {
     period: u32,
     channels: Vec<Channel>,
     // Kept so: a plan means what was asked for, and each count is at hand as it was asked for; the lists alone do not say how many of their places are used.
-    // for each channel a list that begins with its subchannels
+    // for each channel a list that begins with its subchannels, with blank places after them
     // Kept so: lists of 32 places lie in one block, where each list of a length of its own would ask for memory.
     dealt: Vec<[Subchannel; MOST_SUBCHANNELS]>,
     ghost few: { vec_len channels ≤ 8 },
     ghost positive: { 0 < period },
     ghost deals: { Deals delay channels.items (vec_len channels) },
     ghost lists: { vec_len dealt ≡ vec_len channels },
-    ghost laid: { Laid delay channels.items (vec_len channels) dealt.items },
+    ghost laid: { dealt.items ≡ map filled (laid delay channels.items (vec_len channels)) },
+    ghost begun: { Laid delay channels.items (vec_len channels) dealt.items },
 }

@@ -99,6 +99,36 @@ mod tests {
         Ok(())
     }
 
+    // The first channel has the most subchannels that it may have, one page each; the second has one, of 64 pages.
+    #[test]
+    fn pagoda_with_most_subchannels(rt: HostRuntime) -> Result<(), Fail> {
+        let heap = rt.alloc();
+        let channels = [Channel { subchannels: 32 }, Channel { subchannels: 1 }];
+        let Ok(plan) = Pagoda::plan(heap, 32, &channels) else {
+            return Err(Fail::new("refused"));
+        };
+        assert_eq!(rt; (plan.pages(), plan.period()), (96, 64));
+        assert_eq!(rt;
+            (
+                plan.page_at(1, 0),
+                plan.page_at(1, 31),
+                plan.page_at(1, 32),
+                plan.page_at(1, 63),
+            ),
+            (1, 32, 1, 32)
+        );
+        assert_eq!(rt;
+            (
+                plan.page_at(2, 0),
+                plan.page_at(2, 31),
+                plan.page_at(2, 63),
+                plan.page_at(3, 0),
+            ),
+            (33, 64, 96, 0)
+        );
+        Ok(())
+    }
+
     #[test]
     fn fast_at_the_edges(rt: HostRuntime) -> Result<(), Fail> {
         assert!(rt; Fast::plan(0).is_err() && Fast::plan(9).is_err());

@@ -1,4 +1,4 @@
-ghost use Rattle.std.specs.Prelude.{◌≤◌, length};
+ghost use Rattle.std.specs.Prelude.{◌≡◌, ◌≤◌, drop, length};
 ghost use Rattle.planner.specs.Dealing.{AllDealt, ChannelDealt};
 ghost use Rattle.planner.specs.Pagoda.{Takes};
 
@@ -22,6 +22,7 @@ impl Progress {
     ) -> Result<Progress, Refusal>
         requires takes { Takes self.delay subchannels self.first }
         ensures dealt { ChannelDealt self.delay subchannels self.first self.period list.new result }
+        ensures rest_kept { drop subchannels list.new ≡ drop subchannels list.old }
     {
         let mut next = self;
         for turn in 0..subchannels {

@@ -19,7 +19,7 @@ returns c =
     let list = c.index.result.now in
     let within : k < length (vec_items plan.dealt) = omega (arith, c.requires.within, plan.lists, plan.dealt.ok.0) in
     let begun : take s list ≡ subchannels_of m s (begins m cs k) s =
-    ap (take s) (get_or_read (vec_items plan.dealt) k list within c.index.ensures []) ∙ plan.laid k c.requires.within in
+    ap (take s) (get_or_read (vec_items plan.dealt) k list within c.index.ensures []) ∙ plan.begun k c.requires.within in
     let x : Subchannel = get_or list j none in
     let read : x ≡ record { first = first_of m s (begins m cs k) j; pages = share_of m s (begins m cs k) j } =
     sym (get_or-take s list j none c.requires.turn) ∙ ap (λ (l : List Subchannel). get_or l j none) begun ∙ subchannel_of m s (begins m cs k) s j none c.requires.turn in

@@ -1,4 +1,5 @@
 use Rattle.std.proofs.Common.{◌≡◌, ℕ, ◌+◌, ◌*◌, List, ◌++◌, take, refl, sym, ◌∙◌, subst, mul-pos, arith}
+use Rattle.std.proofs.Math.Seq.{drop-set-lt}
 use Rattle.std.proofs.lemmas.List.{append-nil, length-set}
 use Rattle.plans.specs.Periods.{PeriodOf}
 use Rattle.planner.specs.Pagoda.{first_of, channel_cycles, share, subchannels_of}
@@ -21,6 +22,7 @@ loop-turn-init c =
       high = omega arith;
       next = refl;
       places = c.told-list;
+      rest = refl;
       lists = refl;
       together = λ xs h. subst (λ (ys : List ℕ). PeriodOf ys c.args.self.period) (sym (append-nil xs)) h;
     }
@@ -30,7 +32,7 @@ returns-then-first-pages c =
     let shared = pages_shared c.args.self.delay c.args.subchannels _ _ c.pages_next-pages.result c.loop-turn.invariant.delay c.pages_next-pages.ensures.share_of_window in
     let grows = first_of_grows c.args.self.delay c.args.subchannels c.args.self.first (c.loop-turn.turn + 1) c.args.subchannels (omega arith) in
     let next = next_first c.args.self.delay c.args.subchannels c.args.self.first c.loop-turn.turn c.loop-turn.next.1.0 c.pages_next-pages.result c.loop-turn.invariant.next shared in
-    record { dealt = (refl, omega (arith, grows, next)) }
+    record { dealt = (refl, omega (arith, grows, next)); rest_kept = c.loop-turn.invariant.rest }
 
 pub loop-turn-preserved : goal.loop-turn-preserved
 loop-turn-preserved c =
@@ -47,6 +49,7 @@ loop-turn-preserved c =
       high = omega arith;
       next = next_first m s f n c.loop-turn.next.1.0 c.pages_next-pages.result i.next pages;
       places = length-set c.loop-turn.list _ _ ∙ i.places;
+      rest = drop-set-lt s c.loop-turn.list _ _ (omega (arith, c.from.ensures)) ∙ i.rest;
       lists = next_written c.loop-turn.list n _ _ c.from.ensures (omega (arith, i.places, c.requires.takes.1)) ∙ next_dealt m s f n c.loop-turn.next.1.0 c.pages_next-pages.result (take n c.loop-turn.list) i.next shared i.lists;
       together = λ xs h.
           next_period m s f n xs _ _
@@ -70,4 +73,5 @@ returns c =
         delay = i.delay;
         together = λ ns h. subst (λ (n : ℕ). PeriodOf (ns ++ channel_cycles m s f n) c.loop-turn.next.1.1.0) all (i.together ns h);
       };
+      rest_kept = i.rest;
     }

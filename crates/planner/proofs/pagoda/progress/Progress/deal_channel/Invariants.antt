@@ -1,4 +1,4 @@
-use Rattle.std.proofs.Common.{◌≡◌, ℕ, ◌≤◌, List, ◌++◌, length, take}
+use Rattle.std.proofs.Common.{◌≡◌, ℕ, ◌≤◌, List, ◌++◌, length, take, drop}
 use Rattle.planner.specs.Pagoda.{first_of, channel_cycles, subchannels_of}
 use Rattle.plans.specs.Periods.{PeriodOf}
 use Rattle.planner.proofs.pagoda.progress.Progress.deal_channel.Given as goal
@@ -11,6 +11,7 @@ invariant-loop-turn l =
       high : l.next.1.0 ≤ 1025;
       next : l.next.1.0 ≡ first_of l.self.delay l.subchannels l.self.first l.turn;
       places : length l.list ≡ 32;
+      rest : drop l.subchannels l.list ≡ drop l.subchannels l.initial.list;
       lists : take l.turn l.list ≡ subchannels_of l.self.delay l.subchannels l.self.first l.turn;
       together : (xs : List ℕ) → PeriodOf xs l.self.period → PeriodOf (xs ++ channel_cycles l.self.delay l.subchannels l.self.first l.turn) l.next.1.1.0;
     }
