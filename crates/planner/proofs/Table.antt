@@ -1,6 +1,6 @@
 -- The subchannels of the channels, one after the other, and the lists that hold them.
-use Rattle.std.proofs.Common.{◌≡◌, ℕ, zero, suc, ◌+◌, ◌-◌, ◌*◌, ◌<◌, List, [], ◌∷◌, ◌++◌, length, get_or, take, drop, set, map, replicate, Some, Option, sym, refl, ap, ◌∙◌, append_assoc, add-one, inl, inr, arith, below_more}
-use Rattle.std.proofs.Math.Seq.{set-append_seam, take_at}
+use Rattle.std.proofs.Common.{◌≡◌, ℕ, zero, suc, ◌+◌, ◌-◌, ◌*◌, ◌<◌, ◌≤◌, List, [], ◌∷◌, ◌++◌, length, get_or, take, drop, set, map, replicate, Some, Option, sym, refl, ap, ◌∙◌, append_assoc, add-one, inl, inr, arith, below_more}
+use Rattle.std.proofs.Math.Seq.{set-append_seam, take_at, drop-drop}
 use Rattle.std.proofs.lemmas.Bool.{cases_lt}
 use Rattle.std.proofs.lemmas.List.{length_push, get_or_push, get_or_append_left, get_or-map, take_more_set, take-append-drop, drop-replicate, map_push}
 use Rattle.records.specs.declared.kinds.Channel.{Channel}
@@ -33,6 +33,12 @@ next_written xs n i y e low = rw e (take_more_set xs n y low)
 -- the last element of a list is written over
 pub last_written : {X : Type 0} (xs : List X) (x y : X) (i : ℕ) → i ≡ length xs → set (xs ++ (x ∷ [])) i y ≡ xs ++ (y ∷ [])
 last_written xs x y i e = rw e (set-append_seam xs x [] y)
+
+-- two lists that are the same from a place on are so from each later one on
+pub same_later : {X : Type 0} (xs ys : List X) (n k : ℕ) → n ≤ k → drop n xs ≡ drop n ys → drop k xs ≡ drop k ys
+same_later xs ys n k le e =
+    let there : n + (k - n) ≡ k = omega (arith, le) in
+    ap (λ (i : ℕ). drop i xs) (sym there) ∙ sym (drop-drop (k - n) n xs) ∙ ap (drop (k - n)) e ∙ drop-drop (k - n) n ys ∙ ap (λ (i : ℕ). drop i ys) there
 
 -- before the first channel
 pub dealt_none : (m : ℕ) (cs : List Channel) → DealtTo m cs 0 [] 1 (Some 1)

@@ -1,5 +1,5 @@
 -- What the steps of dealing pages leave.
-use Rattle.std.specs.Prelude.{◌≡◌, ℕ, ◌<◌, ◌⊎◌, List, [], ◌++◌, length, map, take, vec_items, Option, Result, MatchResult}
+use Rattle.std.specs.Prelude.{◌≡◌, ℕ, ◌+◌, ◌<◌, ◌≤◌, ◌⊎◌, List, [], ◌++◌, length, map, take, drop, vec_items, Option, Result, MatchResult}
 use Rattle.std.specs.Global.{Vec}
 use Rattle.records.specs.declared.kinds.Channel.{Channel}
 use Rattle.planner.specs.Pagoda.{Deals, BadChannel, laid, filled, Laid, subchannels_of, first_of, begins, channel_cycles, cycles}
@@ -21,6 +21,16 @@ abbrev pub ChannelDealt : ℕ → ℕ → ℕ → Option ℕ → List Subchannel
 ChannelDealt m s f period xs answer =
     MatchResult answer (OneDealt m s f period (take s xs))
     (λ e. (told e ≡ (3, [])) × (1025 < first_of m s f s))
+
+-- the pages of a channel pass 1,024 at its subchannel n, counted from 0: a list, `before` until then, begins with the
+-- subchannels before that one, and the rest is as it was
+pub record StoppedAt (m s f : ℕ) (before xs : List Subchannel) : Type 0 where
+  pub n : ℕ
+  pub within : n < s
+  pub fits : first_of m s f n ≤ 1025
+  pub passes : 1025 < first_of m s f (n + 1)
+  pub front : take n xs ≡ subchannels_of m s f n
+  pub rest : drop n xs ≡ drop n before
 
 -- the first k channels are dealt their pages
 pub record DealtTo (m : ℕ) (cs : List Channel) (k : ℕ) (all : List (List Subchannel)) (first : ℕ) (period : Option ℕ) : Type 0 where

@@ -1,5 +1,5 @@
-ghost use Rattle.std.specs.Prelude.{◌≡◌, ◌≤◌, drop, length};
-ghost use Rattle.planner.specs.Dealing.{AllDealt, ChannelDealt};
+ghost use Rattle.std.specs.Prelude.{◌≡◌, ◌≤◌, IfErr, drop, length};
+ghost use Rattle.planner.specs.Dealing.{AllDealt, ChannelDealt, StoppedAt};
 ghost use Rattle.planner.specs.Pagoda.{Takes};
 
 use super::MOST_SUBCHANNELS;
@@ -22,6 +22,7 @@ impl Progress {
     ) -> Result<Progress, Refusal>
         requires takes { Takes self.delay subchannels self.first }
         ensures dealt { ChannelDealt self.delay subchannels self.first self.period list.new result }
+        ensures stopped_at { IfErr result (λ _. StoppedAt self.delay subchannels self.first list.old list.new) }
         ensures rest_kept { drop subchannels list.new ≡ drop subchannels list.old }
     {
         let mut next = self;

@@ -4,7 +4,7 @@ use Rattle.std.proofs.lemmas.List.{append-nil, length-set}
 use Rattle.plans.specs.Periods.{PeriodOf}
 use Rattle.planner.specs.Pagoda.{first_of, channel_cycles, share, subchannels_of}
 use Rattle.planner.proofs.Channels.{first_of_grows, share_some}
-use Rattle.planner.proofs.Table.{next_dealt, next_first, next_share, next_period, next_written}
+use Rattle.planner.proofs.Table.{next_dealt, next_first, next_share, next_period, next_written, same_later}
 use Rattle.planner.proofs.pagoda.progress.Progress.deal_channel.Goals as goal
 
 same_product : (a b x y : ℕ) → a ≡ x → b ≡ y → a * b ≡ x * y
@@ -29,10 +29,19 @@ loop-turn-init c =
 
 pub returns-then-first-pages : goal.returns-then-first-pages
 returns-then-first-pages c =
-    let shared = pages_shared c.args.self.delay c.args.subchannels _ _ c.pages_next-pages.result c.loop-turn.invariant.delay c.pages_next-pages.ensures.share_of_window in
-    let grows = first_of_grows c.args.self.delay c.args.subchannels c.args.self.first (c.loop-turn.turn + 1) c.args.subchannels (omega arith) in
-    let next = next_first c.args.self.delay c.args.subchannels c.args.self.first c.loop-turn.turn c.loop-turn.next.1.0 c.pages_next-pages.result c.loop-turn.invariant.next shared in
-    record { dealt = (refl, omega (arith, grows, next)); rest_kept = c.loop-turn.invariant.rest }
+    let i = c.loop-turn.invariant in
+    let m : ℕ = c.args.self.delay in
+    let s : ℕ = c.args.subchannels in
+    let f : ℕ = c.args.self.first in
+    let n : ℕ = c.loop-turn.turn in
+    let shared = pages_shared m s _ _ c.pages_next-pages.result i.delay c.pages_next-pages.ensures.share_of_window in
+    let grows = first_of_grows m s f (n + 1) s (omega arith) in
+    let next = next_first m s f n c.loop-turn.next.1.0 c.pages_next-pages.result i.next shared in
+    record {
+      dealt = (refl, omega (arith, grows, next));
+      stopped_at = record { n = n; within = omega arith; fits = omega (arith, i.high, i.next); passes = omega (arith, next); front = i.lists; rest = i.rest };
+      rest_kept = same_later c.loop-turn.list _ n s (omega arith) i.rest;
+    }
 
 pub loop-turn-preserved : goal.loop-turn-preserved
 loop-turn-preserved c =
@@ -49,7 +58,7 @@ loop-turn-preserved c =
       high = omega arith;
       next = next_first m s f n c.loop-turn.next.1.0 c.pages_next-pages.result i.next pages;
       places = length-set c.loop-turn.list _ _ ∙ i.places;
-      rest = drop-set-lt s c.loop-turn.list _ _ (omega (arith, c.from.ensures)) ∙ i.rest;
+      rest = drop-set-lt (n + 1) c.loop-turn.list _ _ (omega (arith, c.from.ensures)) ∙ same_later c.loop-turn.list _ n (n + 1) (omega arith) i.rest;
       lists = next_written c.loop-turn.list n _ _ c.from.ensures (omega (arith, i.places, c.requires.takes.1)) ∙ next_dealt m s f n c.loop-turn.next.1.0 c.pages_next-pages.result (take n c.loop-turn.list) i.next shared i.lists;
       together = λ xs h.
           next_period m s f n xs _ _
@@ -73,5 +82,6 @@ returns c =
         delay = i.delay;
         together = λ ns h. subst (λ (n : ℕ). PeriodOf (ns ++ channel_cycles m s f n) c.loop-turn.next.1.1.0) all (i.together ns h);
       };
-      rest_kept = i.rest;
+      stopped_at = tt;
+      rest_kept = same_later c.loop-turn.list _ c.loop-turn.turn s (omega (arith, all)) i.rest;
     }

@@ -11,7 +11,7 @@ invariant-loop-turn l =
       high : l.next.1.0 ≤ 1025;
       next : l.next.1.0 ≡ first_of l.self.delay l.subchannels l.self.first l.turn;
       places : length l.list ≡ 32;
-      rest : drop l.subchannels l.list ≡ drop l.subchannels l.initial.list;
+      rest : drop l.turn l.list ≡ drop l.turn l.initial.list;
       lists : take l.turn l.list ≡ subchannels_of l.self.delay l.subchannels l.self.first l.turn;
       together : (xs : List ℕ) → PeriodOf xs l.self.period → PeriodOf (xs ++ channel_cycles l.self.delay l.subchannels l.self.first l.turn) l.next.1.1.0;
     }
